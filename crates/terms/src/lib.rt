@@ -1,0 +1,4 @@
+// The terms that every layer of the engine shares: the half of a scenario grid, and the refusals.
+pub mod cards;
+pub mod half;
+pub mod refusal;
