@@ -1,0 +1,4 @@
+pub mod Layers
+pub mod Meanings
+pub mod Outcomes
+pub mod Soundness

@@ -1,0 +1,4 @@
+// Price banks: each answers the price of one contract of a line in each scenario cell.
+pub mod bank;
+pub mod pair;
+pub mod scale;

@@ -1,0 +1,88 @@
+// A scale: a bank with every price, and the reach, times a factor of 1 to 100.
+ghost use mathlib.Core.Path.{_≡_};
+ghost use Prim.Native.Nat.{_*_, _≤_};
+ghost use lib.IntN.{pos, natAbs, _*ℤ_};
+ghost use Rattle.banks.specs.Layers.{MayScale, capped as cappedAt, scaleMade, scaleMeaning};
+ghost use Rattle.banks.specs.Meanings.{mostReach};
+ghost use Rattle.banks.specs.Outcomes.{told, MadeExactlyWhen};
+ghost use Rattle.banks.specs.Soundness.{scale-sound};
+use crate::bank::Bank;
+use terms::cards::between;
+use terms::half::Half;
+use terms::refusal::Refusal;
+
+const MOST_REACH: u64 = 2_000_000_000_000;
+
+#[derive(Clone, Copy, Drop)]
+pub struct Scale<B> {
+    bank: B,
+    factor: u8,
+}
+
+pub impl<B: Bank> Bank for Scale<B> as ScaleBank {
+    ghost meaning = { λ s. scaleMeaning (s .factor) (B·Bank .meaning (s .bank)) };
+
+    ghost sound = { λ s. scale-sound (s .factor) (B·Bank .meaning (s .bank)) (B·Bank .sound (s .bank)) };
+
+    fn half(&self) -> Half {
+        self.bank.half()
+    }
+
+    fn lines(&self) -> usize {
+        self.bank.lines()
+    }
+
+    fn reach(&self) -> u64 {
+        times(self.factor, self.bank.reach()).min(MOST_REACH)
+    }
+
+    fn price(&self, line: usize, point: usize, column: usize) -> i64 {
+        let price = self.bank.price(line, point, column);
+        capped(grown(self.factor, price))
+    }
+}
+
+impl<B: Bank + Drop> Scale<B> {
+    // Multiplies a bank. Refused where the factor is not 1 to 100, or where the reach would pass the bound.
+    pub fn new(bank: B, factor: i64) -> Result<Scale<B>, Refusal>
+        ensures made { λ r. ⌜ told (λ s. scaleMeaning (s .factor) (B·Bank .meaning (s .bank))) r ≡ scaleMade factor (B·Bank .meaning bank) ⌝ }
+        ensures law { λ r. ⌜ MadeExactlyWhen r (MayScale factor (B·Bank .meaning bank)) ⌝ }
+    {
+        if !between(factor, 1, 100) {
+            return Err(Refusal::BadQuantity);
+        }
+        let factor = factor as u8;
+        if times(factor, bank.reach()) > MOST_REACH {
+            return Err(Refusal::ReachTooLarge);
+        }
+        Ok(Scale { bank, factor })
+    }
+}
+
+// A reach times a factor.
+fn times(factor: u8, reach: u64) -> u64
+    requires { ⌜ reach ≤ 2000000000000 ⌝ }
+    ensures { λ r. ⌜ r ≡ factor * reach ⌝ }
+{
+    u64::from(factor) * reach
+}
+
+// A price times a factor.
+fn grown(factor: u8, price: i64) -> i64
+    requires { ⌜ natAbs price ≤ 2000000000000 ⌝ }
+    ensures { λ r. ⌜ r ≡ pos factor *ℤ price ⌝ }
+{
+    i64::from(factor) * price
+}
+
+// A price, or 0 where it passes the bound. No scale that is made ever has such a price.
+fn capped(price: i64) -> i64
+    ensures value { λ r. ⌜ r ≡ cappedAt mostReach price ⌝ }
+    ensures bounded { λ r. ⌜ natAbs r ≤ 2000000000000 ⌝ }
+{
+    if price.unsigned_abs() <= MOST_REACH {
+        price
+    } else {
+        0
+    }
+}
