@@ -1,2 +1,4 @@
 pub mod Made
+pub mod Places
 pub mod Products
+pub mod Tabled

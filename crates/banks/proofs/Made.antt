@@ -10,9 +10,9 @@ use Rattle.std.specs.declared.result.Result.the-variants.{Ok}
 use Rattle.std.proofs.shelf.Tests.{le-leb}
 use Rattle.terms.specs.Cards.{within}
 use Rattle.terms.specs.declared.refusal.Refusal.the-variants.{BadQuantity, ReachTooLarge}
-use Rattle.banks.specs.Meanings.{Meaning, Sound, mostReach}
+use Rattle.banks.specs.Meanings.{Meaning, Sound, capped, mostReach}
 use Rattle.banks.specs.Outcomes.{decided, unless, first}
-use Rattle.banks.specs.Layers.{capped, scaleMeaning, scaleOf, scaleMade}
+use Rattle.banks.specs.Layers.{scaleMeaning, scaleOf, scaleMade}
 use Rattle.banks.specs.Soundness.{cap-keeps, scaled-size}
 use mathlib.Core.List.{_∷_, []}
 

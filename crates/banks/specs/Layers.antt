@@ -12,7 +12,7 @@ use Rattle.terms.specs.Cards.{within}
 use Rattle.terms.specs.Halves.{halfSize}
 use Rattle.terms.specs.declared.refusal.Refusal.{Refusal}
 use Rattle.terms.specs.declared.refusal.Refusal.the-variants.{WrongShape, BadQuantity, ReachTooLarge}
-use Rattle.banks.specs.Meanings.{Meaning, gridded, mostLines, mostReach}
+use Rattle.banks.specs.Meanings.{Meaning, gridded, capped, mostLines, mostReach}
 use Rattle.banks.specs.Outcomes.{unless, first, decided}
 
 -- ---- a pair: two banks of equal half side by side
@@ -60,10 +60,6 @@ scaleMade factor m = decided (scaleRefusal factor m) (scaleOf (natAbs factor) m)
 pub record MayScale (factor : ℤ) (m : Meaning) : Type 0 where
   pub in-range : within (pos 1) (pos 100) factor ≡ true
   pub bounded : natAbs factor * m .reach ≤ mostReach
-
--- a price that passes a bound reads as 0
-abbrev pub capped : ℕ → ℤ → ℤ
-capped most price = elim (leb (natAbs price) most) [ true ↦ price | false ↦ pos 0 ]
 
 -- any bank under any factor: the reach is cut at the bound, and a price beyond it reads as 0
 abbrev pub scaleMeaning : ℕ → Meaning → Meaning

@@ -2,3 +2,4 @@ pub mod Layers
 pub mod Meanings
 pub mod Outcomes
 pub mod Soundness
+pub mod Tables

@@ -1,7 +1,7 @@
 -- What a price bank means: one half, one number of lines, one reach, and one whole number of grains for each scenario cell.
 use mathlib.Core.Path.{_≡_}
 use mathlib.Core.Bool.{Bool, true, false, _&&_}
-use Prim.Native.Nat.{ℕ, _≤_}
+use Prim.Native.Nat.{ℕ, _≤_, min, max}
 use lib.Dec.{leb, ltb}
 use lib.IntN.{ℤ, pos, natAbs}
 use Rattle.terms.specs.Halves.{points}
@@ -37,6 +37,14 @@ onGrid half lines line point column = ltb line lines && (ltb point (points half)
 -- prices as given on the grid, and 0 outside it
 abbrev pub gridded : Half → ℕ → (ℕ → ℕ → ℕ → ℤ) → ℕ → ℕ → ℕ → ℤ
 gridded half lines prices line point column = elim (onGrid half lines line point column) [ true ↦ prices line point column | false ↦ pos 0 ]
+
+-- a size that passes a bound reads as 0
+abbrev pub capped : ℕ → ℤ → ℤ
+capped most size = elim (leb (natAbs size) most) [ true ↦ size | false ↦ pos 0 ]
+
+-- any number as a number of lines: at least 1, and at most as many as a bank may have
+abbrev pub asLines : ℕ → ℕ
+asLines n = max 1 (min mostLines n)
 
 -- what every bank owes: 1 to 16 lines, a reach within the bound, no price beyond the reach, and 0 outside the grid
 pub record Sound (m : Meaning) : Type 0 where

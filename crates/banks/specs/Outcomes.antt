@@ -2,18 +2,31 @@
 use mathlib.Core.Path.{_≡_}
 use mathlib.Core.Bool.{Bool, true, false}
 use mathlib.Core.List.{List, [], _∷_}
+use Prim.Native.Nat.{ℕ, suc}
 use Rattle.std.specs.Results.{isOk}
 use Rattle.std.specs.declared.option.Option.{Option}
 use Rattle.std.specs.declared.option.Option.the-variants.{Some, None}
 use Rattle.std.specs.declared.result.Result.{Result}
 use Rattle.std.specs.declared.result.Result.the-variants.{Ok, Err}
+use Rattle.terms.specs.declared.half.Half.{Half}
 use Rattle.terms.specs.declared.refusal.Refusal.{Refusal}
+use Rattle.terms.specs.declared.refusal.Refusal.the-variants.{WrongShape}
 use Rattle.banks.specs.Meanings.{Meaning}
 
 -- a check that refuses where a test fails
 abbrev pub unless : Bool → Refusal → Option Refusal
 unless true why = None
 unless false why = Some why
+
+-- the first place at which a list fails a test of places and items, counted from i
+unfoldable pub failing : {X : Type 0} → (ℕ → X → Bool) → ℕ → List X → Option ℕ
+failing test i [] = None
+failing test i (x ∷ xs) = elim (test i x) [ true ↦ failing test (suc i) xs | false ↦ Some i ]
+
+-- a check that refuses at a place, if there is one
+abbrev pub refusedAt : (ℕ → Refusal) → Option ℕ → Option Refusal
+refusedAt why None = None
+refusedAt why (Some place) = Some (why place)
 
 -- checks run in their order, and the first that refuses decides
 abbrev pub first : List (Option Refusal) → Option Refusal
@@ -25,6 +38,11 @@ first (Some why ∷ checks) = Some why
 abbrev pub decided : Option Refusal → Meaning → Result Meaning Refusal
 decided None meaning = Ok meaning
 decided (Some why) meaning = Err why
+
+-- what is made on the grid of a size; 6 where no grid has that size
+abbrev pub onHalf : Option Half → (Half → Result Meaning Refusal) → Result Meaning Refusal
+onHalf None make = Err WrongShape
+onHalf (Some half) make = make half
 
 -- what a caller is told: the meaning of the bank that was made, or the refusal
 abbrev pub told : {B : Type 0} → (B → Meaning) → Result B Refusal → Result Meaning Refusal

@@ -4,12 +4,16 @@ use mathlib.Core.Bool.{Bool, true, false, _&&_}
 use Prim.Native.Nat.{ℕ, zero, suc, _+_, _-_, _*_, _≤_, zero-le, min, max}
 use native.Mathlib.Nat.{le-refl, le-trans, mul-le-mul-left}
 use native.Mathlib.Omega.{arith}
-use lib.Dec.{leb, ltb}
+use denote.Ref.{now}
+use lib.Dec.{leb, ltb, lit≤}
+use lib.ListN.{getD}
 use lib.IntN.{ℤ, pos, negsuc, negℤ, natAbs, _*ℤ_, *ℤ-zero}
 use Rattle.std.proofs.shelf.Tests.{leb-true, le-leb}
 use Rattle.terms.specs.declared.half.Half.{Half}
-use Rattle.banks.specs.Meanings.{Meaning, Sound, onGrid, gridded, mostReach, mostLines}
-use Rattle.banks.specs.Layers.{sideBySide, pairMeaning, capped, scaleMeaning}
+use Rattle.banks.specs.Meanings.{Meaning, Sound, onGrid, gridded, capped, asLines, grains, mostReach, mostLines}
+use Rattle.banks.specs.Tables.{mostEntry, entryAt, tableMeaning}
+use Rattle.banks.specs.declared.table.Table.{Table}
+use Rattle.banks.specs.Layers.{sideBySide, pairMeaning, scaleMeaning}
 
 -- ---- sizes of integers
 
@@ -76,4 +80,15 @@ scale-sound factor m sm = record {
   bounded = omega arith;
   within-reach = λ line point column. omega (arith, cap-size mostReach (pos factor *ℤ m .price line point column), le-trans (cap-shrinks mostReach (pos factor *ℤ m .price line point column)) (scaled-size factor m sm line point column));
   outside = λ line point column off. ap (λ price. capped mostReach (pos factor *ℤ price)) (sm .outside line point column off) ∙ ap (capped mostReach) (*ℤ-zero (pos factor));
+}
+
+-- ---- a table
+
+pub table-sound : (t : Table) → Sound (tableMeaning t)
+table-sound t = record {
+  some-line = omega arith;
+  few-lines = omega arith;
+  bounded = lit≤ tt;
+  within-reach = grid-size (t .half) (asLines (t .count)) _ (grains * mostEntry) (λ line point column. rw (size-product (pos grains) (capped mostEntry (getD (now (t .entries)) (entryAt (t .half) line point column) (pos 0)))) (mul-le-mul-left grains (cap-size mostEntry (getD (now (t .entries)) (entryAt (t .half) line point column) (pos 0)))));
+  outside = grid-outside (t .half) (asLines (t .count)) _;
 }

@@ -2,3 +2,4 @@
 pub mod bank;
 pub mod pair;
 pub mod scale;
+pub mod table;

@@ -2,8 +2,8 @@
 ghost use mathlib.Core.Path.{_≡_};
 ghost use Prim.Native.Nat.{_*_, _≤_};
 ghost use lib.IntN.{pos, natAbs, _*ℤ_};
-ghost use Rattle.banks.specs.Layers.{MayScale, capped as cappedAt, scaleMade, scaleMeaning};
-ghost use Rattle.banks.specs.Meanings.{mostReach};
+ghost use Rattle.banks.specs.Layers.{MayScale, scaleMade, scaleMeaning};
+ghost use Rattle.banks.specs.Meanings.{mostReach, capped as cappedAt};
 ghost use Rattle.banks.specs.Outcomes.{told, MadeExactlyWhen};
 ghost use Rattle.banks.specs.Soundness.{scale-sound};
 use crate::bank::Bank;

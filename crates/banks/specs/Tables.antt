@@ -1,0 +1,63 @@
+-- A table: prices that the caller keeps in a list, in whole kopecks.
+use mathlib.Core.Path.{_≡_}
+use mathlib.Core.Bool.{Bool, true, false}
+use mathlib.Core.List.{List, [], _∷_}
+use Prim.Native.Nat.{ℕ, _+_, _*_, _/_, _%_, _<_}
+use lib.Dec.{ltb, eqb}
+use lib.IntN.{ℤ, pos, negsuc, natAbs, _*ℤ_}
+use lib.ListN.{length, getD}
+use denote.Ref.{now}
+use Rattle.std.specs.declared.option.Option.{Option}
+use Rattle.std.specs.declared.option.Option.the-variants.{Some}
+use Rattle.std.specs.declared.result.Result.{Result}
+use Rattle.terms.specs.Cards.{within}
+use Rattle.terms.specs.Halves.{halfOf, points}
+use Rattle.terms.specs.declared.half.Half.{Half}
+use Rattle.terms.specs.declared.refusal.Refusal.{Refusal}
+use Rattle.terms.specs.declared.refusal.Refusal.the-variants.{OutsideField, WrongLength, WrongShape}
+use Rattle.banks.specs.Meanings.{Meaning, grains, columns, mostLines, gridded, capped, asLines}
+use Rattle.banks.specs.Outcomes.{unless, failing, refusedAt, first, decided, onHalf}
+use Rattle.banks.specs.declared.table.Table.{Table}
+
+-- the largest entry, in kopecks
+abbrev pub mostEntry : ℕ
+mostEntry = 10000000
+
+-- where the entry of a cell stands in the list
+abbrev pub entryAt : Half → ℕ → ℕ → ℕ → ℕ
+entryAt half line point column = (line * columns + column) * points half + point
+
+-- how many entries a table of so many lines has
+abbrev pub entries : Half → ℕ → ℕ
+entries half lines = lines * columns * points half
+
+-- whether the entry at a place lies in its field: in columns 0 to 2 it is 0 to 10,000,000 kopecks, elsewhere that much up or down
+abbrev pub fitsAt : Half → ℕ → ℤ → Bool
+fitsAt half place entry = elim (ltb ((place / points half) % columns) 3) [ true ↦ within (pos 0) (pos 10000000) entry | false ↦ within (negsuc 9999999) (pos 10000000) entry ]
+
+-- a grid of prices read from a list, entry by entry
+abbrev pub tabulated : (ℤ → ℤ) → Half → ℕ → List ℤ → Meaning
+tabulated read half lines list = record { half = half; lines = lines; reach = grains * mostEntry; price = gridded half lines (λ line point column. pos grains *ℤ read (getD list (entryAt half line point column) (pos 0))) }
+
+abbrev pub tableOf : Half → ℕ → List ℤ → Meaning
+tableOf = tabulated (λ entry. entry)
+
+-- 6: lines that are not 1 to 16; 5: a list of another length; 2: the first entry outside its field
+abbrev pub tableRefusal : Half → ℤ → List ℤ → Option Refusal
+tableRefusal half lines list = first (unless (within (pos 1) (pos 16) lines) WrongShape ∷ unless (eqb (length list) (entries half (natAbs lines))) (WrongLength (entries half (natAbs lines))) ∷ refusedAt OutsideField (failing (fitsAt half) 0 list) ∷ [])
+
+-- 6 comes first where no grid has that half
+abbrev pub tableMade : ℤ → ℤ → List ℤ → Result Meaning Refusal
+tableMade half lines list = onHalf (halfOf half) (λ h. decided (tableRefusal h lines list) (tableOf h (natAbs lines) list))
+
+-- when a list may be a table
+pub record MayTabulate (half lines : ℤ) (list : List ℤ) : Type 0 where
+  pub grid : Half
+  pub of-half : halfOf half ≡ Some grid
+  pub few-lines : within (pos 1) (pos 16) lines ≡ true
+  pub whole : length list ≡ entries grid (natAbs lines)
+  pub fitting : (place : ℕ) → place < length list → fitsAt grid place (getD list place (pos 0)) ≡ true
+
+-- any half, count and list: the count is read as a number of lines, and an entry beyond the largest as 0
+abbrev pub tableMeaning : Table → Meaning
+tableMeaning t = tabulated (capped mostEntry) (t .half) (asLines (t .count)) (now (t .entries))

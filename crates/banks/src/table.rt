@@ -1,0 +1,142 @@
+// A table: prices that the caller keeps in a list, in whole kopecks. It lies at the bottom of a pile of layers.
+ghost use mathlib.Core.Path.{_≡_};
+ghost use Prim.Native.Nat.{_≤_, _<_};
+ghost use lib.IntN.{pos, natAbs};
+ghost use lib.ListN.{getD};
+ghost use Rattle.banks.specs.Meanings.{capped};
+ghost use Rattle.banks.specs.Outcomes.{failing, told, MadeExactlyWhen};
+ghost use Rattle.banks.specs.Soundness.{table-sound};
+ghost use Rattle.banks.specs.Tables.{mostEntry, entryAt, entries as entryCount, fitsAt, tableMade, tableMeaning, MayTabulate};
+use crate::bank::Bank;
+use terms::cards::between;
+use terms::half::Half;
+use terms::refusal::Refusal;
+
+const COLUMNS: usize = 7;
+
+// the columns that hold prices, before those that hold changes of a price
+const VOLATILITIES: usize = 3;
+
+const MOST_LINES: usize = 16;
+
+const MOST_ENTRY: i64 = 10_000_000;
+
+const GRAINS: i64 = 80_000;
+
+#[derive(Clone, Copy, Drop)]
+pub struct Table<'a> {
+    half: Half,
+    count: usize,
+    entries: &'a [i64],
+}
+
+pub impl<'a> Bank for Table<'a> as TableBank {
+    ghost meaning = { tableMeaning };
+
+    ghost sound = { table-sound };
+
+    fn half(&self) -> Half {
+        self.half
+    }
+
+    fn lines(&self) -> usize {
+        self.count.min(MOST_LINES).max(1)
+    }
+
+    fn reach(&self) -> u64 {
+        800_000_000_000
+    }
+
+    fn price(&self, line: usize, point: usize, column: usize) -> i64 {
+        if line < self.lines() && point < self.half.points() && column < COLUMNS {
+            GRAINS * self.entry(place(self.half, line, point, column))
+        } else {
+            0
+        }
+    }
+}
+
+impl<'a> Table<'a> {
+    // Reads prices from a list that the caller keeps: for each line and column, in this order, a price for each point.
+    // Refused where the half or the number of lines is none of a bank's, where the list has another length, or where an
+    // entry lies outside its field.
+    pub fn new(half: i64, lines: i64, entries: &'a [i64]) -> Result<Table<'a>, Refusal>
+        ensures made { λ r. ⌜ told tableMeaning r ≡ tableMade half lines (now (entries .entry)) ⌝ }
+        ensures law { λ r. ⌜ MadeExactlyWhen r (MayTabulate half lines (now (entries .entry))) ⌝ }
+    {
+        let Some(grid) = Half::of(half) else {
+            return Err(Refusal::WrongShape);
+        };
+        if !between(lines, 1, 16) {
+            return Err(Refusal::WrongShape);
+        }
+        let count = lines as usize;
+        let wanted = length(grid, count);
+        if entries.len() != wanted {
+            return Err(Refusal::WrongLength(wanted));
+        }
+        match first_bad(grid, entries) {
+            Some(place) => Err(Refusal::OutsideField(place)),
+            None => Ok(Table {
+                half: grid,
+                count,
+                entries,
+            }),
+        }
+    }
+
+    // The entry at a place, in kopecks; 0 past the list's end, or where the entry is larger than a table's may be.
+    fn entry(&self, place: usize) -> i64
+        ensures value { λ r. ⌜ r ≡ capped mostEntry (getD (now (now (self .entry) .entries)) place (pos 0)) ⌝ }
+        ensures bounded { λ r. ⌜ natAbs r ≤ 10000000 ⌝ }
+    {
+        if place >= self.entries.len() {
+            return 0;
+        }
+        let entry = self.entries[place];
+        if between(entry, -MOST_ENTRY, MOST_ENTRY) {
+            entry
+        } else {
+            0
+        }
+    }
+}
+
+// How many entries a table of so many lines has.
+fn length(half: Half, lines: usize) -> usize
+    requires { ⌜ lines ≤ 16 ⌝ }
+    ensures { λ r. ⌜ r ≡ entryCount half lines ⌝ }
+{
+    lines * COLUMNS * half.points()
+}
+
+// Where the entry of a cell stands in the list.
+fn place(half: Half, line: usize, point: usize, column: usize) -> usize
+    requires { ⌜ line < 16 ⌝ ∗ ⌜ point < 17 ⌝ ∗ ⌜ column < 7 ⌝ }
+    ensures { λ r. ⌜ r ≡ entryAt half line point column ⌝ }
+{
+    (line * COLUMNS + column) * half.points() + point
+}
+
+// The place of the first entry outside its field, if there is one.
+fn first_bad(half: Half, entries: &[i64]) -> Option<usize>
+    ensures { λ r. ⌜ r ≡ failing (fitsAt half) 0 (now (entries .entry)) ⌝ }
+{
+    for (k, entry) in entries.iter().enumerate() {
+        if !fits(half, k, *entry) {
+            return Some(k);
+        }
+    }
+    None
+}
+
+// Whether the entry at a place lies in its field: a price is never below 0.
+fn fits(half: Half, place: usize, entry: i64) -> bool
+    ensures { λ r. ⌜ r ≡ fitsAt half place entry ⌝ }
+{
+    if place / half.points() % COLUMNS < VOLATILITIES {
+        between(entry, 0, MOST_ENTRY)
+    } else {
+        between(entry, -MOST_ENTRY, MOST_ENTRY)
+    }
+}
