@@ -1,4 +1,6 @@
+pub mod Fields
 pub mod Made
 pub mod Places
 pub mod Products
+pub mod Stripped
 pub mod Tabled

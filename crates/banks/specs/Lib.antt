@@ -2,4 +2,5 @@ pub mod Layers
 pub mod Meanings
 pub mod Outcomes
 pub mod Soundness
+pub mod Strips
 pub mod Tables

@@ -34,6 +34,11 @@ first [] = None
 first (None ∷ checks) = first checks
 first (Some why ∷ checks) = Some why
 
+-- a check that goes before all that follows
+abbrev pub before : Option Refusal → Result Meaning Refusal → Result Meaning Refusal
+before None rest = rest
+before (Some why) rest = Err why
+
 -- the meaning of what is made, or the refusal
 abbrev pub decided : Option Refusal → Meaning → Result Meaning Refusal
 decided None meaning = Ok meaning

@@ -12,12 +12,14 @@ use Rattle.std.proofs.shelf.Tests.{leb-true, le-leb}
 use Rattle.terms.specs.declared.half.Half.{Half}
 use Rattle.banks.specs.Meanings.{Meaning, Sound, onGrid, gridded, capped, asLines, grains, mostReach, mostLines}
 use Rattle.banks.specs.Tables.{mostEntry, entryAt, tableMeaning}
+use Rattle.banks.specs.Strips.{quoted, noQuote, stripMeaning}
+use Rattle.banks.specs.declared.strip.Strip.{Strip}
 use Rattle.banks.specs.declared.table.Table.{Table}
 use Rattle.banks.specs.Layers.{sideBySide, pairMeaning, scaleMeaning}
 
 -- ---- sizes of integers
 
-size-neg : (n : ℕ) → natAbs (negℤ (pos n)) ≡ n
+pub size-neg : (n : ℕ) → natAbs (negℤ (pos n)) ≡ n
 size-neg zero = refl
 size-neg (suc n) = refl
 
@@ -91,4 +93,15 @@ table-sound t = record {
   bounded = lit≤ tt;
   within-reach = grid-size (t .half) (asLines (t .count)) _ (grains * mostEntry) (λ line point column. rw (size-product (pos grains) (capped mostEntry (getD (now (t .entries)) (entryAt (t .half) line point column) (pos 0)))) (mul-le-mul-left grains (cap-size mostEntry (getD (now (t .entries)) (entryAt (t .half) line point column) (pos 0)))));
   outside = grid-outside (t .half) (asLines (t .count)) _;
+}
+
+-- ---- a strip
+
+pub strip-sound : (s : Strip) → Sound (stripMeaning s)
+strip-sound s = record {
+  some-line = omega arith;
+  few-lines = omega arith;
+  bounded = omega arith;
+  within-reach = grid-size (s .half) (asLines (s .count)) _ (min mostReach (s .reach)) (λ line point column. cap-size (min mostReach (s .reach)) (quoted (s .half) (getD (s .quotes) line noQuote) point column));
+  outside = grid-outside (s .half) (asLines (s .count)) _;
 }

@@ -3,10 +3,10 @@ ghost use mathlib.Core.Path.{_≡_};
 ghost use Prim.Native.Nat.{_*_, _≤_};
 ghost use lib.IntN.{pos, natAbs, _*ℤ_};
 ghost use Rattle.banks.specs.Layers.{MayScale, scaleMade, scaleMeaning};
-ghost use Rattle.banks.specs.Meanings.{mostReach, capped as cappedAt};
 ghost use Rattle.banks.specs.Outcomes.{told, MadeExactlyWhen};
 ghost use Rattle.banks.specs.Soundness.{scale-sound};
 use crate::bank::Bank;
+use crate::size::capped;
 use terms::cards::between;
 use terms::half::Half;
 use terms::refusal::Refusal;
@@ -38,7 +38,7 @@ pub impl<B: Bank> Bank for Scale<B> as ScaleBank {
 
     fn price(&self, line: usize, point: usize, column: usize) -> i64 {
         let price = self.bank.price(line, point, column);
-        capped(grown(self.factor, price))
+        capped(MOST_REACH, i128::from(grown(self.factor, price)))
     }
 }
 
@@ -73,16 +73,4 @@ fn grown(factor: u8, price: i64) -> i64
     ensures { λ r. ⌜ r ≡ pos factor *ℤ price ⌝ }
 {
     i64::from(factor) * price
-}
-
-// A price, or 0 where it passes the bound. No scale that is made ever has such a price.
-fn capped(price: i64) -> i64
-    ensures value { λ r. ⌜ r ≡ cappedAt mostReach price ⌝ }
-    ensures bounded { λ r. ⌜ natAbs r ≤ 2000000000000 ⌝ }
-{
-    if price.unsigned_abs() <= MOST_REACH {
-        price
-    } else {
-        0
-    }
 }

@@ -1,0 +1,154 @@
+-- A strip that is made means what its rule says: its count is a number of lines, its reach lies within the bound, and no price is cut.
+use mathlib.Core.Path.{_≡_, refl, sym, ap, subst, fun-ext, _∙_}
+use mathlib.Core.Bool.{Bool, true, false, _&&_}
+use mathlib.Core.List.{List, [], _∷_}
+use Prim.Native.Nat.{ℕ, zero, suc, _+_, _*_, _≤_, _<_, zero-le, min, max}
+use native.Mathlib.Nat.{le-trans, le-refl, mul-le-mul, mul-le-mul-right}
+use native.Mathlib.Omega.{arith}
+use lib.Dec.{leb, ltb, eqb}
+use lib.IntN.{ℤ, pos, negsuc, negℤ, natAbs, _+ℤ_, _-ℤ_, _*ℤ_}
+use lib.ListN.{length, getD}
+use Rattle.std.specs.Iters.{folded}
+use Rattle.std.proofs.shelf.Signed.{ints}
+use Rattle.std.proofs.shelf.Tests.{leb-true, le-leb, ltb-true, and-parts, and-from}
+use Rattle.std.specs.declared.option.Option.{Option}
+use Rattle.std.specs.declared.option.Option.the-variants.{Some, None}
+use Rattle.std.specs.declared.result.Result.{Result}
+use Rattle.std.specs.declared.result.Result.the-variants.{Ok, Err}
+use Rattle.terms.specs.Cards.{within, futureFits}
+use Rattle.terms.specs.Halves.{halfOf, halfSize, stepsOf, points}
+use Rattle.terms.specs.declared.cards.Line.{Line}
+use Rattle.terms.specs.declared.half.Half.{Half}
+use Rattle.terms.specs.declared.half.Half.the-variants.{One, Two, Four, Eight}
+use Rattle.terms.specs.declared.refusal.Refusal.{Refusal}
+use Rattle.terms.specs.declared.refusal.Refusal.the-variants.{BadCard, WrongShape}
+use Rattle.banks.specs.Meanings.{Meaning, mostReach, onGrid, gridded, capped, asLines}
+use Rattle.banks.specs.Outcomes.{unless, failing, refusedAt, first, before, decided, onHalf}
+use Rattle.banks.specs.Soundness.{cap-keeps, size-product, size-neg}
+use Rattle.banks.specs.Strips.{quoteOf, quoted, quoteReach, stripReach, noLine, stripOf, stripMade, noQuote, stripMeaning, MayStrip}
+use Rattle.banks.specs.declared.strip.Quote.{Quote}
+use Rattle.banks.specs.declared.strip.Strip.{Strip}
+use Rattle.banks.proofs.Fields.{sizes, quote-sizes}
+use Rattle.banks.proofs.Places.{all-pass, none-fails, some-is-none}
+
+-- ---- sizes
+
+sum-size : (a b : ℤ) → natAbs (a +ℤ b) ≤ natAbs a + natAbs b
+sum-size a b = omega (arith, ints)
+
+from-middle-size : (half : Half) (point : ℕ) → point < points half → natAbs (pos point -ℤ pos (halfSize half)) ≤ halfSize half
+from-middle-size half point h = omega (arith, ints)
+
+whole-move : (half : Half) (x : ℕ) → halfSize half * (stepsOf half * x) ≡ 8 * x
+whole-move One x = omega arith
+whole-move Two x = omega arith
+whole-move Four x = omega arith
+whole-move Eight x = omega arith
+
+reach-fits : (half : Half) (l : Line) → futureFits l ≡ true → quoteReach half (quoteOf half l) ≤ mostReach
+reach-fits half l h =
+    let s = sizes l h in
+    let q = quote-sizes half l h in
+    let x : ℕ = natAbs (l .rates .r1) * natAbs (l .spot) in
+    omega (arith, q .base, q .change, whole-move half x, mul-le-mul (s .rate) (s .spot))
+
+-- on the grid a price lies within its future's reach
+quoted-size : (half : Half) (q : Quote) (point column : ℕ) → point < points half → natAbs (quoted half q point column) ≤ quoteReach half q
+quoted-size half q point column on = go (ltb column 3) (eqb column 3) (eqb column 4)
+  where
+    moved : ℤ
+    moved = (pos point -ℤ pos (halfSize half)) *ℤ pos (q .step)
+
+    moved-size : natAbs moved ≤ halfSize half * q .step
+    moved-size =
+        rw (size-product (pos point -ℤ pos (halfSize half)) (pos (q .step))) (mul-le-mul-right (q .step) (from-middle-size half point on))
+
+    go : (a b c : Bool) → natAbs (elim a [ true ↦ pos (q .base) +ℤ moved | false ↦ elim b [ true ↦ negℤ (pos (q .change)) | false ↦ elim c [ true ↦ pos (q .change) | false ↦ pos 0 ] ] ]) ≤ quoteReach half q
+    go true b c = omega (arith, sum-size (pos (q .base)) moved, moved-size)
+    go false true c = omega (arith, size-neg (q .change))
+    go false false true = omega arith
+    go false false false = zero-le
+
+-- ---- the greatest of a list
+
+module _ {X : Type 0} (size : X → ℕ) where
+  from-start : (a : ℕ) (xs : List X) → a ≤ folded (λ most x. max most (size x)) a xs
+  from-start a [] = le-refl a
+  from-start a (x ∷ xs) = le-trans (omega arith) (from-start (max a (size x)) xs)
+
+  each-below : (a : ℕ) (xs : List X) (k : ℕ) (d : X) → k < length xs → size (getD xs k d) ≤ folded (λ most x. max most (size x)) a xs
+  each-below a [] k d h = omega arith
+  each-below a (x ∷ xs) zero d h = le-trans (omega arith) (from-start (max a (size x)) xs)
+  each-below a (x ∷ xs) (suc k) d h = each-below (max a (size x)) xs k d (omega arith)
+
+  all-below : (m a : ℕ) (xs : List X) (d : X) → a ≤ m → ((k : ℕ) → k < length xs → size (getD xs k d) ≤ m) → folded (λ most x. max most (size x)) a xs ≤ m
+  all-below m a [] d h each = h
+  all-below m a (x ∷ xs) d h each =
+      let here : size x ≤ m = each 0 (omega arith) in
+      all-below m (max a (size x)) xs d (omega arith) (λ k j. each (suc k) (omega arith))
+
+-- ---- the meaning
+
+grid-same : (half : Half) (lines : ℕ) (f g : ℕ → ℕ → ℕ → ℤ) → ((line point column : ℕ) → line < lines → point < points half → f line point column ≡ g line point column) → gridded half lines f ≡ gridded half lines g
+grid-same half lines f g same = fun-ext λ line. fun-ext λ point. fun-ext λ column. go line point column (onGrid half lines line point column) refl
+  where
+    go : (line point column : ℕ) (b : Bool) → onGrid half lines line point column ≡ b → _≡_ {A = ℤ} (elim b [ true ↦ f line point column | false ↦ pos 0 ]) (elim b [ true ↦ g line point column | false ↦ pos 0 ])
+    go line point column true on =
+        let parts = and-parts (ltb line lines) _ on in
+        same line point column (ltb-true line lines (parts .0)) (ltb-true point (points half) (and-parts (ltb point (points half)) _ (parts .1) .0))
+    go line point column false off = refl
+
+module _ (half : Half) (cards : List Line) (some : 1 ≤ length cards) (few : length cards ≤ 16) (fitting : (k : ℕ) → k < length cards → futureFits (getD cards k noLine) ≡ true) where
+  bounded : stripReach half cards ≤ mostReach
+  bounded = all-below (λ card. quoteReach half (quoteOf half card)) mostReach 0 cards noLine zero-le (λ k h. reach-fits half (getD cards k noLine) (fitting k h))
+
+  pub strip-means : (quotes : List Quote) → ((k : ℕ) → k < length cards → getD quotes k noQuote ≡ quoteOf half (getD cards k noLine)) → stripMeaning (record { half = half; count = length cards; reach = stripReach half cards; quotes = quotes }) ≡ stripOf half cards
+  strip-means quotes each =
+      ap (λ n. at n (min mostReach (stripReach half cards)) (cut (min mostReach (stripReach half cards)))) counted
+      ∙ ap (λ reach. at (length cards) reach (cut reach)) kept
+      ∙ ap (λ prices. record { half = half; lines = length cards; reach = stripReach half cards; price = prices }) (grid-same half (length cards) (cut (stripReach half cards)) (λ line. quoted half (quoteOf half (getD cards line noLine))) uncut)
+    where
+      cut : ℕ → ℕ → ℕ → ℕ → ℤ
+      cut most line point column = capped most (quoted half (getD quotes line noQuote) point column)
+
+      at : ℕ → ℕ → (ℕ → ℕ → ℕ → ℤ) → Meaning
+      at n reach prices = record { half = half; lines = n; reach = reach; price = gridded half n prices }
+
+      counted : asLines (length cards) ≡ length cards
+      counted = omega arith
+
+      kept : min mostReach (stripReach half cards) ≡ stripReach half cards
+      kept = omega (arith, bounded)
+
+      uncut : (line point column : ℕ) → line < length cards → point < points half → cut (stripReach half cards) line point column ≡ quoted half (quoteOf half (getD cards line noLine)) point column
+      uncut line point column in-cards on =
+          ap (λ q. capped (stripReach half cards) (quoted half q point column)) (each line in-cards)
+          ∙ cap-keeps (stripReach half cards) _ (le-trans (quoted-size half (quoteOf half (getD cards line noLine)) point column on) (each-below (λ card. quoteReach half (quoteOf half card)) 0 cards line noLine in-cards))
+
+-- ---- the outcome
+
+module _ (half : ℤ) (cards : List Line) where
+  rest : Result Meaning Refusal
+  rest = onHalf (halfOf half) (λ h. decided (first (unless (within (pos 1) (pos 16) (pos (length cards))) WrongShape ∷ [])) (stripOf h cards))
+
+  pub strip-refused : (place : ℕ) → failing (λ _. futureFits) 0 cards ≡ Some place → Err (BadCard place) ≡ stripMade half cards
+  unfolding rest
+  strip-refused place bad = sym (ap (λ f. before (refusedAt BadCard f) rest) bad)
+
+  pub may-all : MayStrip half cards → failing (λ _. futureFits) 0 cards ≡ None
+  may-all may = all-pass (λ _. futureFits) noLine cards (may .fitting)
+
+  module _ (grid : Half) (fitting : failing (λ _. futureFits) 0 cards ≡ None) (of-half : halfOf half ≡ Some grid) (some : 1 ≤ length cards) (few : length cards ≤ 16) where
+    pub each-fits : (k : ℕ) → k < length cards → futureFits (getD cards k noLine) ≡ true
+    each-fits = none-fails (λ _. futureFits) noLine cards fitting
+
+    pub strip-may : MayStrip half cards
+    strip-may = record { grid = grid; of-half = of-half; some-line = some; few-lines = few; fitting = each-fits }
+
+    pub strip-made : (quotes : List Quote) → ((k : ℕ) → k < length cards → getD quotes k noQuote ≡ quoteOf grid (getD cards k noLine)) → Ok (stripMeaning (record { half = grid; count = length cards; reach = stripReach grid cards; quotes = quotes })) ≡ stripMade half cards
+    unfolding rest
+    strip-made quotes each =
+        ap Ok (strip-means grid cards some few each-fits quotes each)
+        ∙ sym (ap (λ f. before (refusedAt BadCard f) rest) fitting
+        ∙ ap (λ h. onHalf h (λ g. decided (first (unless (within (pos 1) (pos 16) (pos (length cards))) WrongShape ∷ [])) (stripOf g cards))) of-half
+        ∙ ap (λ b. decided (first (unless b WrongShape ∷ [])) (stripOf grid cards)) (and-from _ _ (le-leb 1 (length cards) some) (le-leb (length cards) 16 few)))
