@@ -1,3 +1,4 @@
+pub mod Bounded
 pub mod Fields
 pub mod Made
 pub mod Places

@@ -1,8 +1,8 @@
 -- A strip that is made means what its rule says: its count is a number of lines, its reach lies within the bound, and no price is cut.
-use mathlib.Core.Path.{_≡_, refl, sym, ap, subst, fun-ext, _∙_}
+use mathlib.Core.Path.{_≡_, refl, sym, ap, _∙_}
 use mathlib.Core.Bool.{Bool, true, false, _&&_}
 use mathlib.Core.List.{List, [], _∷_}
-use Prim.Native.Nat.{ℕ, zero, suc, _+_, _*_, _≤_, _<_, zero-le, min, max}
+use Prim.Native.Nat.{ℕ, zero, suc, _+_, _*_, _≤_, _<_, zero-le, max}
 use native.Mathlib.Nat.{le-trans, le-refl, mul-le-mul, mul-le-mul-right}
 use native.Mathlib.Omega.{arith}
 use lib.Dec.{leb, ltb, eqb}
@@ -10,7 +10,7 @@ use lib.IntN.{ℤ, pos, negsuc, negℤ, natAbs, _+ℤ_, _-ℤ_, _*ℤ_}
 use lib.ListN.{length, getD}
 use Rattle.std.specs.Iters.{folded}
 use Rattle.std.proofs.shelf.Signed.{ints}
-use Rattle.std.proofs.shelf.Tests.{leb-true, le-leb, ltb-true, and-parts, and-from}
+use Rattle.std.proofs.shelf.Tests.{le-leb, and-from}
 use Rattle.std.specs.declared.option.Option.{Option}
 use Rattle.std.specs.declared.option.Option.the-variants.{Some, None}
 use Rattle.std.specs.declared.result.Result.{Result}
@@ -22,12 +22,13 @@ use Rattle.terms.specs.declared.half.Half.{Half}
 use Rattle.terms.specs.declared.half.Half.the-variants.{One, Two, Four, Eight}
 use Rattle.terms.specs.declared.refusal.Refusal.{Refusal}
 use Rattle.terms.specs.declared.refusal.Refusal.the-variants.{BadCard, WrongShape}
-use Rattle.banks.specs.Meanings.{Meaning, mostReach, onGrid, gridded, capped, asLines}
+use Rattle.banks.specs.Meanings.{Meaning, mostReach}
 use Rattle.banks.specs.Outcomes.{unless, failing, refusedAt, first, before, decided, onHalf}
-use Rattle.banks.specs.Soundness.{cap-keeps, size-product, size-neg}
-use Rattle.banks.specs.Strips.{quoteOf, quoted, quoteReach, stripReach, noLine, stripOf, stripMade, noQuote, stripMeaning, MayStrip}
+use Rattle.banks.specs.Soundness.{size-product, size-neg}
+use Rattle.banks.specs.Strips.{quoteOf, quoted, quoteReach, stripReach, noLine, carded, stripOf, stripMade, noQuote, stripMeaning, MayStrip}
 use Rattle.banks.specs.declared.strip.Quote.{Quote}
 use Rattle.banks.specs.declared.strip.Strip.{Strip}
+use Rattle.banks.proofs.Bounded.{bounded-is, grid-same}
 use Rattle.banks.proofs.Fields.{sizes, quote-sizes}
 use Rattle.banks.proofs.Places.{all-pass, none-fails, some-is-none}
 
@@ -89,41 +90,24 @@ module _ {X : Type 0} (size : X → ℕ) where
 
 -- ---- the meaning
 
-grid-same : (half : Half) (lines : ℕ) (f g : ℕ → ℕ → ℕ → ℤ) → ((line point column : ℕ) → line < lines → point < points half → f line point column ≡ g line point column) → gridded half lines f ≡ gridded half lines g
-grid-same half lines f g same = fun-ext λ line. fun-ext λ point. fun-ext λ column. go line point column (onGrid half lines line point column) refl
-  where
-    go : (line point column : ℕ) (b : Bool) → onGrid half lines line point column ≡ b → _≡_ {A = ℤ} (elim b [ true ↦ f line point column | false ↦ pos 0 ]) (elim b [ true ↦ g line point column | false ↦ pos 0 ])
-    go line point column true on =
-        let parts = and-parts (ltb line lines) _ on in
-        same line point column (ltb-true line lines (parts .0)) (ltb-true point (points half) (and-parts (ltb point (points half)) _ (parts .1) .0))
-    go line point column false off = refl
-
 module _ (half : Half) (cards : List Line) (some : 1 ≤ length cards) (few : length cards ≤ 16) (fitting : (k : ℕ) → k < length cards → futureFits (getD cards k noLine) ≡ true) where
-  bounded : stripReach half cards ≤ mostReach
-  bounded = all-below (λ card. quoteReach half (quoteOf half card)) mostReach 0 cards noLine zero-le (λ k h. reach-fits half (getD cards k noLine) (fitting k h))
+  reached : stripReach half cards ≤ mostReach
+  reached = all-below (λ card. quoteReach half (quoteOf half card)) mostReach 0 cards noLine zero-le (λ k h. reach-fits half (getD cards k noLine) (fitting k h))
 
   pub strip-means : (quotes : List Quote) → ((k : ℕ) → k < length cards → getD quotes k noQuote ≡ quoteOf half (getD cards k noLine)) → stripMeaning (record { half = half; count = length cards; reach = stripReach half cards; quotes = quotes }) ≡ stripOf half cards
   strip-means quotes each =
-      ap (λ n. at n (min mostReach (stripReach half cards)) (cut (min mostReach (stripReach half cards)))) counted
-      ∙ ap (λ reach. at (length cards) reach (cut reach)) kept
-      ∙ ap (λ prices. record { half = half; lines = length cards; reach = stripReach half cards; price = prices }) (grid-same half (length cards) (cut (stripReach half cards)) (λ line. quoted half (quoteOf half (getD cards line noLine))) uncut)
+      bounded-is half (length cards) (stripReach half cards) kept some few reached sized
+      ∙ ap (λ prices. record { half = half; lines = length cards; reach = stripReach half cards; price = prices }) (grid-same half (length cards) kept (carded half cards) same)
     where
-      cut : ℕ → ℕ → ℕ → ℕ → ℤ
-      cut most line point column = capped most (quoted half (getD quotes line noQuote) point column)
+      kept : ℕ → ℕ → ℕ → ℤ
+      kept line = quoted half (getD quotes line noQuote)
 
-      at : ℕ → ℕ → (ℕ → ℕ → ℕ → ℤ) → Meaning
-      at n reach prices = record { half = half; lines = n; reach = reach; price = gridded half n prices }
+      same : (line point column : ℕ) → line < length cards → point < points half → kept line point column ≡ carded half cards line point column
+      same line point column in-cards on = ap (λ q. quoted half q point column) (each line in-cards)
 
-      counted : asLines (length cards) ≡ length cards
-      counted = omega arith
-
-      kept : min mostReach (stripReach half cards) ≡ stripReach half cards
-      kept = omega (arith, bounded)
-
-      uncut : (line point column : ℕ) → line < length cards → point < points half → cut (stripReach half cards) line point column ≡ quoted half (quoteOf half (getD cards line noLine)) point column
-      uncut line point column in-cards on =
-          ap (λ q. capped (stripReach half cards) (quoted half q point column)) (each line in-cards)
-          ∙ cap-keeps (stripReach half cards) _ (le-trans (quoted-size half (quoteOf half (getD cards line noLine)) point column on) (each-below (λ card. quoteReach half (quoteOf half card)) 0 cards line noLine in-cards))
+      sized : (line point column : ℕ) → line < length cards → point < points half → natAbs (kept line point column) ≤ stripReach half cards
+      sized line point column in-cards on =
+          rw (same line point column in-cards on) (le-trans (quoted-size half (quoteOf half (getD cards line noLine)) point column on) (each-below (λ card. quoteReach half (quoteOf half card)) 0 cards line noLine in-cards))
 
 -- ---- the outcome
 

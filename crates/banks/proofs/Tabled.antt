@@ -1,12 +1,13 @@
 -- A table that is made means what its rule says: its count is a number of lines, and no entry is cut.
-use mathlib.Core.Path.{_≡_, refl, sym, ap, subst, fun-ext, _∙_}
+use mathlib.Core.Path.{_≡_, sym, ap, subst, _∙_}
 use mathlib.Core.Bool.{Bool, true, false, _&&_}
 use mathlib.Core.List.{List, [], _∷_}
 use mathlib.Core.Logic.{⊎-elim}
-use Prim.Native.Nat.{ℕ, suc, _+_, _*_, _/_, _%_, _≤_, _<_, min, max}
+use Prim.Native.Nat.{ℕ, _*_, _/_, _%_, _≤_, _<_, zero-le}
+use native.Mathlib.Nat.{mul-le-mul-left}
 use native.Mathlib.Omega.{arith}
-use lib.Dec.{leb, ltb, eqb}
-use lib.IntN.{ℤ, pos, negsuc, natAbs, _*ℤ_}
+use lib.Dec.{leb, ltb, eqb, lit≤}
+use lib.IntN.{ℤ, pos, negsuc, natAbs}
 use lib.ListN.{length, getD}
 use Rattle.std.proofs.shelf.Lists.{getD-past}
 use Rattle.std.proofs.shelf.Tests.{leb-true, eq-eqb, and-parts, cases-lt, false≢true}
@@ -19,10 +20,11 @@ use Rattle.terms.specs.Halves.{halfOf, points}
 use Rattle.terms.specs.declared.half.Half.{Half}
 use Rattle.terms.specs.declared.refusal.Refusal.{Refusal}
 use Rattle.terms.specs.declared.refusal.Refusal.the-variants.{OutsideField, WrongLength, WrongShape}
-use Rattle.banks.specs.Meanings.{Meaning, columns, grains, gridded, capped, asLines}
+use Rattle.banks.specs.Meanings.{Meaning, columns, grains, bounded}
 use Rattle.banks.specs.Outcomes.{unless, failing, refusedAt, first, decided, onHalf}
-use Rattle.banks.specs.Soundness.{cap-keeps}
-use Rattle.banks.specs.Tables.{mostEntry, entryAt, entries, fitsAt, tabulated, tableOf, tableRefusal, tableMade, MayTabulate}
+use Rattle.banks.specs.Soundness.{size-product}
+use Rattle.banks.specs.Tables.{mostEntry, entryAt, entries, fitsAt, listed, tableOf, tableRefusal, tableMade, MayTabulate}
+use Rattle.banks.proofs.Bounded.{bounded-is}
 use Rattle.banks.proofs.Places.{all-pass, none-fails}
 
 -- ---- ranges as facts
@@ -51,22 +53,19 @@ entry-size half place e h = go (ltb ((place / points half) % columns) 3) h
 -- ---- the meaning
 
 module _ (grid : Half) (lines : ℕ) (list : List ℤ) (some : 1 ≤ lines) (few : lines ≤ 16) (fitting : failing (fitsAt grid) 0 list ≡ None) where
-  entry-kept : (place : ℕ) → capped mostEntry (getD list place (pos 0)) ≡ getD list place (pos 0)
-  entry-kept place = ⊎-elim
-      (λ in-list. cap-keeps mostEntry _ (entry-size grid place (getD list place (pos 0)) (none-fails (fitsAt grid) (pos 0) list fitting place in-list)))
-      (λ past. rw (getD-past list place (pos 0) past) refl)
+  entry-small : (place : ℕ) → natAbs (getD list place (pos 0)) ≤ mostEntry
+  entry-small place = ⊎-elim
+      (λ in-list. entry-size grid place (getD list place (pos 0)) (none-fails (fitsAt grid) (pos 0) list fitting place in-list))
+      (λ past. rw (getD-past list place (pos 0) past) zero-le)
       (cases-lt place (length list))
 
-  pub table-means : tabulated (capped mostEntry) grid (asLines lines) list ≡ tableOf grid lines list
-  table-means =
-      ap (λ n. tabulated (capped mostEntry) grid n list) counted
-      ∙ ap (priced grid lines) (fun-ext λ line. fun-ext λ point. fun-ext λ column. ap (λ e. pos grains *ℤ e) (entry-kept (entryAt grid line point column)))
-    where
-      counted : asLines lines ≡ lines
-      counted = omega arith
+  listed-size : (line point column : ℕ) → natAbs (listed grid list line point column) ≤ grains * mostEntry
+  listed-size line point column =
+      rw (size-product (pos grains) (getD list (entryAt grid line point column) (pos 0))) (mul-le-mul-left grains (entry-small (entryAt grid line point column)))
 
-      priced : Half → ℕ → (ℕ → ℕ → ℕ → ℤ) → Meaning
-      priced half n prices = record { half = half; lines = n; reach = grains * mostEntry; price = gridded half n prices }
+  pub table-means : bounded grid lines (grains * mostEntry) (listed grid list) ≡ tableOf grid lines list
+  table-means =
+      bounded-is grid lines (grains * mostEntry) (listed grid list) some few (lit≤ tt) (λ line point column _ _. listed-size line point column)
 
 -- ---- the outcome
 
@@ -81,7 +80,7 @@ module _ (half lines : ℤ) (list : List ℤ) (grid : Half) (of-half : halfOf ha
   table-refused place bad =
       sym (judged ∙ ap (λ f. decided (first (refusedAt OutsideField f ∷ [])) (tableOf grid (natAbs lines) list)) bad)
 
-  pub table-made : failing (fitsAt grid) 0 list ≡ None → Ok (tabulated (capped mostEntry) grid (asLines (natAbs lines)) list) ≡ tableMade half lines list
+  pub table-made : failing (fitsAt grid) 0 list ≡ None → Ok (bounded grid (natAbs lines) (grains * mostEntry) (listed grid list)) ≡ tableMade half lines list
   table-made fitting =
       let range = count-range lines few in
       ap Ok (table-means grid (natAbs lines) list (range .0) (range .1) fitting)

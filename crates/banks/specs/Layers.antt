@@ -12,7 +12,7 @@ use Rattle.terms.specs.Cards.{within}
 use Rattle.terms.specs.Halves.{halfSize}
 use Rattle.terms.specs.declared.refusal.Refusal.{Refusal}
 use Rattle.terms.specs.declared.refusal.Refusal.the-variants.{WrongShape, BadQuantity, ReachTooLarge}
-use Rattle.banks.specs.Meanings.{Meaning, gridded, capped, mostLines, mostReach}
+use Rattle.banks.specs.Meanings.{Meaning, capped, exactly, mostLines, mostReach}
 use Rattle.banks.specs.Outcomes.{unless, first, decided}
 
 -- ---- a pair: two banks of equal half side by side
@@ -23,7 +23,7 @@ sideBySide a b line point column = elim (ltb line (a .lines)) [ true ↦ a .pric
 
 -- two banks on a grid of so many lines
 abbrev pub paired : ℕ → Meaning → Meaning → Meaning
-paired lines a b = record { half = a .half; lines = lines; reach = max (a .reach) (b .reach); price = gridded (a .half) lines (sideBySide a b) }
+paired lines a b = exactly (a .half) lines (max (a .reach) (b .reach)) (sideBySide a b)
 
 abbrev pub pairOf : Meaning → Meaning → Meaning
 pairOf a b = paired (a .lines + b .lines) a b
@@ -59,7 +59,7 @@ scaleMade factor m = decided (scaleRefusal factor m) (scaleOf (natAbs factor) m)
 -- when a bank may be scaled
 pub record MayScale (factor : ℤ) (m : Meaning) : Type 0 where
   pub in-range : within (pos 1) (pos 100) factor ≡ true
-  pub bounded : natAbs factor * m .reach ≤ mostReach
+  pub small-reach : natAbs factor * m .reach ≤ mostReach
 
 -- any bank under any factor: the reach is cut at the bound, and a price beyond it reads as 0
 abbrev pub scaleMeaning : ℕ → Meaning → Meaning

@@ -46,10 +46,18 @@ capped most size = elim (leb (natAbs size) most) [ true ↦ size | false ↦ pos
 abbrev pub asLines : ℕ → ℕ
 asLines n = max 1 (min mostLines n)
 
+-- a meaning as its parts say it
+abbrev pub exactly : Half → ℕ → ℕ → (ℕ → ℕ → ℕ → ℤ) → Meaning
+exactly half lines reach prices = record { half = half; lines = lines; reach = reach; price = gridded half lines prices }
+
+-- any parts made a bank's meaning: the count is read as a number of lines, the reach is cut at the bound, and a price beyond the reach reads as 0
+abbrev pub bounded : Half → ℕ → ℕ → (ℕ → ℕ → ℕ → ℤ) → Meaning
+bounded half count reach prices = exactly half (asLines count) (min mostReach reach) (λ line point column. capped (min mostReach reach) (prices line point column))
+
 -- what every bank owes: 1 to 16 lines, a reach within the bound, no price beyond the reach, and 0 outside the grid
 pub record Sound (m : Meaning) : Type 0 where
   pub some-line : 1 ≤ m .lines
   pub few-lines : m .lines ≤ mostLines
-  pub bounded : m .reach ≤ mostReach
+  pub small-reach : m .reach ≤ mostReach
   pub within-reach : (line point column : ℕ) → natAbs (m .price line point column) ≤ m .reach
   pub outside : (line point column : ℕ) → onGrid (m .half) (m .lines) line point column ≡ false → m .price line point column ≡ pos 0

@@ -1,20 +1,14 @@
--- Proofs that each bank owes what every bank owes, for any value of its struct.
+-- Proofs that what `bounded`, a pair and a scale make of any parts is what every bank owes.
 use mathlib.Core.Path.{_≡_, refl, sym, ap, subst, _∙_}
 use mathlib.Core.Bool.{Bool, true, false, _&&_}
 use Prim.Native.Nat.{ℕ, zero, suc, _+_, _-_, _*_, _≤_, zero-le, min, max}
 use native.Mathlib.Nat.{le-refl, le-trans, mul-le-mul-left}
 use native.Mathlib.Omega.{arith}
-use denote.Ref.{now}
-use lib.Dec.{leb, ltb, lit≤}
-use lib.ListN.{getD}
+use lib.Dec.{leb, ltb}
 use lib.IntN.{ℤ, pos, negsuc, negℤ, natAbs, _*ℤ_, *ℤ-zero}
 use Rattle.std.proofs.shelf.Tests.{leb-true, le-leb}
 use Rattle.terms.specs.declared.half.Half.{Half}
-use Rattle.banks.specs.Meanings.{Meaning, Sound, onGrid, gridded, capped, asLines, grains, mostReach, mostLines}
-use Rattle.banks.specs.Tables.{mostEntry, entryAt, tableMeaning}
-use Rattle.banks.specs.Strips.{quoted, noQuote, stripMeaning}
-use Rattle.banks.specs.declared.strip.Strip.{Strip}
-use Rattle.banks.specs.declared.table.Table.{Table}
+use Rattle.banks.specs.Meanings.{Meaning, Sound, onGrid, gridded, capped, bounded, asLines, mostReach, mostLines}
 use Rattle.banks.specs.Layers.{sideBySide, pairMeaning, scaleMeaning}
 
 -- ---- sizes of integers
@@ -51,13 +45,24 @@ cap-shrinks most price = elim (leb (natAbs price) most) as (λ b. natAbs (elim b
 pub cap-keeps : (most : ℕ) (price : ℤ) → natAbs price ≤ most → capped most price ≡ price
 cap-keeps most price fits = ap (λ b. elim b [ true ↦ price | false ↦ pos 0 ]) (le-leb (natAbs price) most fits)
 
+-- ---- any parts made a meaning
+
+pub bounded-sound : (half : Half) (count reach : ℕ) (prices : ℕ → ℕ → ℕ → ℤ) → Sound (bounded half count reach prices)
+bounded-sound half count reach prices = record {
+  some-line = omega arith;
+  few-lines = omega arith;
+  small-reach = omega arith;
+  within-reach = grid-size half (asLines count) (λ line point column. capped (min mostReach reach) (prices line point column)) (min mostReach reach) (λ line point column. cap-size (min mostReach reach) (prices line point column));
+  outside = grid-outside half (asLines count) (λ line point column. capped (min mostReach reach) (prices line point column));
+}
+
 -- ---- layers
 
 pub pair-sound : (a b : Meaning) → Sound a → Sound b → Sound (pairMeaning a b)
 pair-sound a b sa sb = record {
   some-line = omega (arith, sa .some-line);
   few-lines = omega arith;
-  bounded = omega (arith, sa .bounded, sb .bounded);
+  small-reach = omega (arith, sa .small-reach, sb .small-reach);
   within-reach = grid-size (a .half) lines (sideBySide a b) (max (a .reach) (b .reach)) each;
   outside = grid-outside (a .half) lines (sideBySide a b);
 }
@@ -79,29 +84,7 @@ pub scale-sound : (factor : ℕ) (m : Meaning) → Sound m → Sound (scaleMeani
 scale-sound factor m sm = record {
   some-line = sm .some-line;
   few-lines = sm .few-lines;
-  bounded = omega arith;
+  small-reach = omega arith;
   within-reach = λ line point column. omega (arith, cap-size mostReach (pos factor *ℤ m .price line point column), le-trans (cap-shrinks mostReach (pos factor *ℤ m .price line point column)) (scaled-size factor m sm line point column));
   outside = λ line point column off. ap (λ price. capped mostReach (pos factor *ℤ price)) (sm .outside line point column off) ∙ ap (capped mostReach) (*ℤ-zero (pos factor));
-}
-
--- ---- a table
-
-pub table-sound : (t : Table) → Sound (tableMeaning t)
-table-sound t = record {
-  some-line = omega arith;
-  few-lines = omega arith;
-  bounded = lit≤ tt;
-  within-reach = grid-size (t .half) (asLines (t .count)) _ (grains * mostEntry) (λ line point column. rw (size-product (pos grains) (capped mostEntry (getD (now (t .entries)) (entryAt (t .half) line point column) (pos 0)))) (mul-le-mul-left grains (cap-size mostEntry (getD (now (t .entries)) (entryAt (t .half) line point column) (pos 0)))));
-  outside = grid-outside (t .half) (asLines (t .count)) _;
-}
-
--- ---- a strip
-
-pub strip-sound : (s : Strip) → Sound (stripMeaning s)
-strip-sound s = record {
-  some-line = omega arith;
-  few-lines = omega arith;
-  bounded = omega arith;
-  within-reach = grid-size (s .half) (asLines (s .count)) _ (min mostReach (s .reach)) (λ line point column. cap-size (min mostReach (s .reach)) (quoted (s .half) (getD (s .quotes) line noQuote) point column));
-  outside = grid-outside (s .half) (asLines (s .count)) _;
 }

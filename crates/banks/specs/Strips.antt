@@ -2,7 +2,7 @@
 use mathlib.Core.Path.{_≡_}
 use mathlib.Core.Bool.{Bool, true, false}
 use mathlib.Core.List.{List, [], _∷_}
-use Prim.Native.Nat.{ℕ, _+_, _*_, _≤_, _<_, min, max}
+use Prim.Native.Nat.{ℕ, _+_, _*_, _≤_, _<_, max}
 use lib.Dec.{ltb, eqb}
 use lib.IntN.{ℤ, pos, negℤ, natAbs, _+ℤ_, _-ℤ_, _*ℤ_}
 use lib.ListN.{length, getD}
@@ -16,7 +16,7 @@ use Rattle.terms.specs.declared.cards.Line.{Line}
 use Rattle.terms.specs.declared.half.Half.{Half}
 use Rattle.terms.specs.declared.refusal.Refusal.{Refusal}
 use Rattle.terms.specs.declared.refusal.Refusal.the-variants.{BadCard, WrongShape}
-use Rattle.banks.specs.Meanings.{Meaning, grains, mostReach, gridded, capped, asLines}
+use Rattle.banks.specs.Meanings.{Meaning, grains, exactly, bounded}
 use Rattle.banks.specs.Outcomes.{unless, failing, refusedAt, first, before, decided, onHalf}
 use Rattle.banks.specs.declared.strip.Quote.{Quote}
 use Rattle.banks.specs.declared.strip.Strip.{Strip}
@@ -44,8 +44,12 @@ stripReach half cards = folded (λ most card. max most (quoteReach half (quoteOf
 abbrev pub noLine : Line
 noLine = record { month = pos 0; price = pos 0; spot = pos 0; change = pos 0; rates = record { r1 = pos 0; r2 = pos 0; r3 = pos 0 }; limits = record { a = pos 0; b = pos 0 } }
 
+-- the price of a cell, as the cards have it
+abbrev pub carded : Half → List Line → ℕ → ℕ → ℕ → ℤ
+carded half cards line = quoted half (quoteOf half (getD cards line noLine))
+
 abbrev pub stripOf : Half → List Line → Meaning
-stripOf half cards = record { half = half; lines = length cards; reach = stripReach half cards; price = gridded half (length cards) (λ line. quoted half (quoteOf half (getD cards line noLine))) }
+stripOf half cards = exactly half (length cards) (stripReach half cards) (carded half cards)
 
 -- 4: the first card with a number outside its field, or whose rates or limits fall. 6: a half that no grid has; lines that are not 1 to 16
 abbrev pub stripMade : ℤ → List Line → Result Meaning Refusal
@@ -64,6 +68,6 @@ pub record MayStrip (half : ℤ) (cards : List Line) : Type 0 where
 abbrev pub noQuote : Quote
 noQuote = record { base = 0; step = 0; change = 0 }
 
--- any count, reach and quotes: the count is read as a number of lines, the reach is cut at the bound, and a price beyond it reads as 0
+-- any half, count, reach and quotes
 abbrev pub stripMeaning : Strip → Meaning
-stripMeaning s = record { half = s .half; lines = asLines (s .count); reach = min mostReach (s .reach); price = gridded (s .half) (asLines (s .count)) (λ line point column. capped (min mostReach (s .reach)) (quoted (s .half) (getD (s .quotes) line noQuote) point column)) }
+stripMeaning s = bounded (s .half) (s .count) (s .reach) (λ line. quoted (s .half) (getD (s .quotes) line noQuote))

@@ -15,7 +15,7 @@ use Rattle.terms.specs.Halves.{halfOf, points}
 use Rattle.terms.specs.declared.half.Half.{Half}
 use Rattle.terms.specs.declared.refusal.Refusal.{Refusal}
 use Rattle.terms.specs.declared.refusal.Refusal.the-variants.{OutsideField, WrongLength, WrongShape}
-use Rattle.banks.specs.Meanings.{Meaning, grains, columns, mostLines, gridded, capped, asLines}
+use Rattle.banks.specs.Meanings.{Meaning, grains, columns, exactly, bounded}
 use Rattle.banks.specs.Outcomes.{unless, failing, refusedAt, first, decided, onHalf}
 use Rattle.banks.specs.declared.table.Table.{Table}
 
@@ -35,12 +35,12 @@ entries half lines = lines * columns * points half
 abbrev pub fitsAt : Half → ℕ → ℤ → Bool
 fitsAt half place entry = elim (ltb ((place / points half) % columns) 3) [ true ↦ within (pos 0) (pos 10000000) entry | false ↦ within (negsuc 9999999) (pos 10000000) entry ]
 
--- a grid of prices read from a list, entry by entry
-abbrev pub tabulated : (ℤ → ℤ) → Half → ℕ → List ℤ → Meaning
-tabulated read half lines list = record { half = half; lines = lines; reach = grains * mostEntry; price = gridded half lines (λ line point column. pos grains *ℤ read (getD list (entryAt half line point column) (pos 0))) }
+-- the price of a cell, as the list has it
+abbrev pub listed : Half → List ℤ → ℕ → ℕ → ℕ → ℤ
+listed half list line point column = pos grains *ℤ getD list (entryAt half line point column) (pos 0)
 
 abbrev pub tableOf : Half → ℕ → List ℤ → Meaning
-tableOf = tabulated (λ entry. entry)
+tableOf half lines list = exactly half lines (grains * mostEntry) (listed half list)
 
 -- 6: lines that are not 1 to 16; 5: a list of another length; 2: the first entry outside its field
 abbrev pub tableRefusal : Half → ℤ → List ℤ → Option Refusal
@@ -58,6 +58,6 @@ pub record MayTabulate (half lines : ℤ) (list : List ℤ) : Type 0 where
   pub whole : length list ≡ entries grid (natAbs lines)
   pub fitting : (place : ℕ) → place < length list → fitsAt grid place (getD list place (pos 0)) ≡ true
 
--- any half, count and list: the count is read as a number of lines, and an entry beyond the largest as 0
+-- any half, count and list
 abbrev pub tableMeaning : Table → Meaning
-tableMeaning t = tabulated (capped mostEntry) (t .half) (asLines (t .count)) (now (t .entries))
+tableMeaning t = bounded (t .half) (t .count) (grains * mostEntry) (listed (t .half) (now (t .entries)))

@@ -2,6 +2,6 @@
 pub mod bank;
 pub mod pair;
 pub mod scale;
-mod size;
+pub mod size;
 pub mod strip;
 pub mod table;

@@ -4,10 +4,10 @@ ghost use Rattle.banks.specs.Layers.{MayPair, pairMade, pairMeaning};
 ghost use Rattle.banks.specs.Outcomes.{told, MadeExactlyWhen};
 ghost use Rattle.banks.specs.Soundness.{pair-sound};
 use crate::bank::Bank;
+use crate::size::COLUMNS;
+use crate::size::MOST_LINES;
 use terms::half::Half;
 use terms::refusal::Refusal;
-
-const MOST_LINES: usize = 16;
 
 #[derive(Clone, Copy, Drop)]
 pub struct Pair<A, B> {
@@ -33,7 +33,7 @@ pub impl<A: Bank, B: Bank> Bank for Pair<A, B> as PairBank {
     }
 
     fn price(&self, line: usize, point: usize, column: usize) -> i64 {
-        if line < self.lines() && point < self.half().points() && column < 7 {
+        if line < self.lines() && point < self.half().points() && column < COLUMNS {
             let before = self.first.lines();
             if line < before {
                 self.first.price(line, point, column)

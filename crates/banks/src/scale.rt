@@ -6,12 +6,11 @@ ghost use Rattle.banks.specs.Layers.{MayScale, scaleMade, scaleMeaning};
 ghost use Rattle.banks.specs.Outcomes.{told, MadeExactlyWhen};
 ghost use Rattle.banks.specs.Soundness.{scale-sound};
 use crate::bank::Bank;
+use crate::size::MOST_REACH;
 use crate::size::capped;
 use terms::cards::between;
 use terms::half::Half;
 use terms::refusal::Refusal;
-
-const MOST_REACH: u64 = 2_000_000_000_000;
 
 #[derive(Clone, Copy, Drop)]
 pub struct Scale<B> {

@@ -6,23 +6,20 @@ ghost use Prim.Native.Nat.{ℕ, _*_, _≤_, _<_};
 ghost use lib.IntN.{pos, negℤ, natAbs, _+ℤ_, _-ℤ_, _*ℤ_};
 ghost use lib.ListN.{length, getD};
 ghost use Rattle.banks.specs.Outcomes.{failing, told, MadeExactlyWhen};
-ghost use Rattle.banks.specs.Soundness.{strip-sound};
+ghost use Rattle.banks.specs.Soundness.{bounded-sound};
 ghost use Rattle.banks.specs.Strips.{quoteOf, quoted, quoteReach, stripReach, noLine, noQuote, stripMade, stripMeaning, MayStrip};
 ghost use Rattle.terms.specs.Cards.{futureFits};
 ghost use Rattle.terms.specs.Halves.{halfSize, stepsOf};
 use crate::bank::Bank;
+use crate::size::COLUMNS;
+use crate::size::MOST_LINES;
+use crate::size::MOST_REACH;
 use crate::size::capped;
 use terms::cards::Line;
 use terms::half::Half;
 use terms::refusal::Refusal;
 
-const COLUMNS: usize = 7;
-
-const MOST_LINES: usize = 16;
-
 const GRAINS: u64 = 80_000;
-
-const MOST_REACH: u64 = 2_000_000_000_000;
 
 // A future in grains: its price, what its price moves by from point to point, and what a move of the rate curve changes it by.
 #[derive(Clone, Copy)]
@@ -43,7 +40,7 @@ pub struct Strip {
 pub impl Bank for Strip as StripBank {
     ghost meaning = { stripMeaning };
 
-    ghost sound = { strip-sound };
+    ghost sound = { λ s. bounded-sound (s .half) (s .count) (s .reach) (λ line. quoted (s .half) (getD (s .quotes) line noQuote)) };
 
     fn half(&self) -> Half {
         self.half
@@ -60,7 +57,7 @@ pub impl Bank for Strip as StripBank {
     fn price(&self, line: usize, point: usize, column: usize) -> i64 {
         if line < self.lines() && point < self.half.points() && column < COLUMNS {
             let quote = self.quotes[line];
-            capped(self.reach(), quote.price(self.half, point, column))
+            capped(self.reach, quote.price(self.half, point, column))
         } else {
             0
         }

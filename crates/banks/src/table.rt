@@ -1,27 +1,30 @@
 // A table: prices that the caller keeps in a list, in whole kopecks. It lies at the bottom of a pile of layers.
 ghost use mathlib.Core.Path.{_≡_};
-ghost use Prim.Native.Nat.{_≤_, _<_};
-ghost use lib.IntN.{pos, natAbs};
+ghost use Prim.Native.Nat.{_*_, _≤_, _<_};
+ghost use denote.Ref.{now};
+ghost use lib.IntN.{pos, _*ℤ_};
 ghost use lib.ListN.{getD};
-ghost use Rattle.banks.specs.Meanings.{capped};
+ghost use Rattle.banks.specs.Meanings.{grains};
 ghost use Rattle.banks.specs.Outcomes.{failing, told, MadeExactlyWhen};
-ghost use Rattle.banks.specs.Soundness.{table-sound};
-ghost use Rattle.banks.specs.Tables.{mostEntry, entryAt, entries as entryCount, fitsAt, tableMade, tableMeaning, MayTabulate};
+ghost use Rattle.banks.specs.Soundness.{bounded-sound};
+ghost use Rattle.banks.specs.Tables.{mostEntry, listed, entryAt, entries as entryCount, fitsAt, tableMade, tableMeaning, MayTabulate};
 use crate::bank::Bank;
+use crate::size::COLUMNS;
+use crate::size::MOST_LINES;
+use crate::size::capped;
 use terms::cards::between;
 use terms::half::Half;
 use terms::refusal::Refusal;
 
-const COLUMNS: usize = 7;
-
 // the columns that hold prices, before those that hold changes of a price
 const VOLATILITIES: usize = 3;
 
-const MOST_LINES: usize = 16;
-
 const MOST_ENTRY: i64 = 10_000_000;
 
-const GRAINS: i64 = 80_000;
+const GRAINS: i128 = 80_000;
+
+// what the largest entry comes to in grains
+const TABLE_REACH: u64 = 800_000_000_000;
 
 #[derive(Clone, Copy, Drop)]
 pub struct Table<'a> {
@@ -33,7 +36,7 @@ pub struct Table<'a> {
 pub impl<'a> Bank for Table<'a> as TableBank {
     ghost meaning = { tableMeaning };
 
-    ghost sound = { table-sound };
+    ghost sound = { λ t. bounded-sound (t .half) (t .count) (grains * mostEntry) (listed (t .half) (now (t .entries))) };
 
     fn half(&self) -> Half {
         self.half
@@ -44,12 +47,15 @@ pub impl<'a> Bank for Table<'a> as TableBank {
     }
 
     fn reach(&self) -> u64 {
-        800_000_000_000
+        TABLE_REACH
     }
 
     fn price(&self, line: usize, point: usize, column: usize) -> i64 {
         if line < self.lines() && point < self.half.points() && column < COLUMNS {
-            GRAINS * self.entry(place(self.half, line, point, column))
+            capped(
+                TABLE_REACH,
+                self.entry(place(self.half, line, point, column)),
+            )
         } else {
             0
         }
@@ -85,17 +91,12 @@ impl<'a> Table<'a> {
         }
     }
 
-    // The entry at a place, in kopecks; 0 past the list's end, or where the entry is larger than a table's may be.
-    fn entry(&self, place: usize) -> i64
-        ensures value { λ r. ⌜ r ≡ capped mostEntry (getD (now (now (self .entry) .entries)) place (pos 0)) ⌝ }
-        ensures bounded { λ r. ⌜ natAbs r ≤ 10000000 ⌝ }
+    // The entry at a place, in grains; 0 past the list's end.
+    fn entry(&self, place: usize) -> i128
+        ensures { λ r. ⌜ r ≡ pos grains *ℤ getD (now (now (self .entry) .entries)) place (pos 0) ⌝ }
     {
-        if place >= self.entries.len() {
-            return 0;
-        }
-        let entry = self.entries[place];
-        if between(entry, -MOST_ENTRY, MOST_ENTRY) {
-            entry
+        if place < self.entries.len() {
+            GRAINS * i128::from(self.entries[place])
         } else {
             0
         }

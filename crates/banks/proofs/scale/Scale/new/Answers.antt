@@ -24,5 +24,5 @@ returns g c =
     let fits : natAbs factor * m .reach ≤ mostReach = omega (arith, grown) in
     record {
       made = rw kept (scale-made factor m (g .B·Bank .sound (c .args .bank)) in-range fits);
-      law = ((λ _. refl), (λ _. record { in-range = in-range; bounded = fits }));
+      law = ((λ _. refl), (λ _. record { in-range = in-range; small-reach = fits }));
     }
