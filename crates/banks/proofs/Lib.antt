@@ -1,5 +1,6 @@
 pub mod Bounded
 pub mod Fields
+pub mod Judged
 pub mod Made
 pub mod Places
 pub mod Products

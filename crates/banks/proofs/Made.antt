@@ -11,7 +11,7 @@ use Rattle.std.proofs.shelf.Tests.{le-leb}
 use Rattle.terms.specs.Cards.{within}
 use Rattle.terms.specs.declared.refusal.Refusal.the-variants.{BadQuantity, ReachTooLarge}
 use Rattle.banks.specs.Meanings.{Meaning, Sound, capped, mostReach}
-use Rattle.banks.specs.Outcomes.{decided, unless, first}
+use Rattle.banks.specs.Outcomes.{decided, unless}
 use Rattle.banks.specs.Layers.{scaleMeaning, scaleOf, scaleMade}
 use Rattle.banks.specs.Soundness.{cap-keeps, scaled-size}
 use mathlib.Core.List.{_∷_, []}
@@ -32,5 +32,5 @@ module _ (factor : ℕ) (m : Meaning) (sm : Sound m) (fits : factor * m .reach �
 pub scale-made : (factor : ℤ) (m : Meaning) → Sound m → within (pos 1) (pos 100) factor ≡ true → natAbs factor * m .reach ≤ mostReach → Ok (scaleMeaning (natAbs factor) m) ≡ scaleMade factor m
 scale-made factor m sm in-range fits =
     ap Ok (scale-means (natAbs factor) m sm fits)
-    ∙ sym (ap (λ b. decided (first (unless b BadQuantity ∷ unless (leb (natAbs factor * m .reach) mostReach) ReachTooLarge ∷ [])) (scaleOf (natAbs factor) m)) in-range
-    ∙ ap (λ b. decided (first (unless b ReachTooLarge ∷ [])) (scaleOf (natAbs factor) m)) (le-leb (natAbs factor * m .reach) mostReach fits))
+    ∙ sym (ap (λ b. decided (unless b BadQuantity ∷ unless (leb (natAbs factor * m .reach) mostReach) ReachTooLarge ∷ []) (scaleOf (natAbs factor) m)) in-range
+    ∙ ap (λ b. decided (unless b ReachTooLarge ∷ []) (scaleOf (natAbs factor) m)) (le-leb (natAbs factor * m .reach) mostReach fits))

@@ -1,5 +1,5 @@
 -- A strip that is made means what its rule says: its count is a number of lines, its reach lies within the bound, and no price is cut.
-use mathlib.Core.Path.{_≡_, refl, sym, ap, _∙_}
+use mathlib.Core.Path.{_≡_, refl, sym, ap, subst, _∙_}
 use mathlib.Core.Bool.{Bool, true, false, _&&_}
 use mathlib.Core.List.{List, [], _∷_}
 use Prim.Native.Nat.{ℕ, zero, suc, _+_, _*_, _≤_, _<_, zero-le, max}
@@ -10,7 +10,7 @@ use lib.IntN.{ℤ, pos, negsuc, negℤ, natAbs, _+ℤ_, _-ℤ_, _*ℤ_}
 use lib.ListN.{length, getD}
 use Rattle.std.specs.Iters.{folded}
 use Rattle.std.proofs.shelf.Signed.{ints}
-use Rattle.std.proofs.shelf.Tests.{le-leb, and-from}
+use Rattle.std.proofs.shelf.Tests.{le-leb, leb-true, and-from, and-parts}
 use Rattle.std.specs.declared.option.Option.{Option}
 use Rattle.std.specs.declared.option.Option.the-variants.{Some, None}
 use Rattle.std.specs.declared.result.Result.{Result}
@@ -23,13 +23,14 @@ use Rattle.terms.specs.declared.half.Half.the-variants.{One, Two, Four, Eight}
 use Rattle.terms.specs.declared.refusal.Refusal.{Refusal}
 use Rattle.terms.specs.declared.refusal.Refusal.the-variants.{BadCard, WrongShape}
 use Rattle.banks.specs.Meanings.{Meaning, mostReach}
-use Rattle.banks.specs.Outcomes.{unless, failing, refusedAt, first, before, decided, onHalf}
+use Rattle.banks.specs.Outcomes.{unless, failing, decided, onHalf, making}
 use Rattle.banks.specs.Soundness.{size-product, size-neg}
-use Rattle.banks.specs.Strips.{quoteOf, quoted, quoteReach, stripReach, noLine, carded, stripOf, stripMade, noQuote, stripMeaning, MayStrip}
+use Rattle.banks.specs.Strips.{quoteOf, quoted, quoteReach, stripReach, noLine, carded, stripOf, stripJudged, stripMade, noQuote, stripMeaning, Strips}
 use Rattle.banks.specs.declared.strip.Quote.{Quote}
 use Rattle.banks.specs.declared.strip.Strip.{Strip}
 use Rattle.banks.proofs.Bounded.{bounded-is, grid-same}
 use Rattle.banks.proofs.Fields.{sizes, quote-sizes}
+use Rattle.banks.proofs.Judged.{pass-unless, pass-places, passed-half, passed-unless, passed-places}
 use Rattle.banks.proofs.Places.{all-pass, none-fails, some-is-none}
 
 -- ---- sizes
@@ -112,27 +113,27 @@ module _ (half : Half) (cards : List Line) (some : 1 ≤ length cards) (few : le
 -- ---- the outcome
 
 module _ (half : ℤ) (cards : List Line) where
-  rest : Result Meaning Refusal
-  rest = onHalf (halfOf half) (λ h. decided (first (unless (within (pos 1) (pos 16) (pos (length cards))) WrongShape ∷ [])) (stripOf h cards))
+  pub strip-passed : (grid : Half) → stripJudged half cards ≡ Ok grid → Strips half cards grid
+  strip-passed grid e =
+      let all = passed-places (failing (λ _. futureFits) 0 cards) BadCard _ grid e in
+      let h = passed-half (halfOf half) _ grid (all .1) in
+      let counted = passed-unless (within (pos 1) (pos 16) (pos (length cards))) WrongShape _ grid (h .2) in
+      let own : h .0 ≡ grid = cc (counted .1) in
+      let range = and-parts (leb 1 (length cards)) (leb (length cards) 16) (counted .0) in
+      subst (Strips half cards) own (record {
+        of-half = h .1;
+        some-line = leb-true 1 (length cards) (range .0);
+        few-lines = leb-true (length cards) 16 (range .1);
+        fitting = none-fails (λ _. futureFits) noLine cards (all .0);
+      })
 
-  pub strip-refused : (place : ℕ) → failing (λ _. futureFits) 0 cards ≡ Some place → Err (BadCard place) ≡ stripMade half cards
-  unfolding rest
-  strip-refused place bad = sym (ap (λ f. before (refusedAt BadCard f) rest) bad)
+  pub strip-allowed : (grid : Half) → Strips half cards grid → stripJudged half cards ≡ Ok grid
+  strip-allowed grid s =
+      pass-places _ _ BadCard (all-pass (λ _. futureFits) noLine cards (s .fitting))
+      ∙ ap (λ h. onHalf h (λ g. decided (unless (within (pos 1) (pos 16) (pos (length cards))) WrongShape ∷ []) g)) (s .of-half)
+      ∙ pass-unless _ _ WrongShape (and-from _ _ (le-leb 1 (length cards) (s .some-line)) (le-leb (length cards) 16 (s .few-lines)))
 
-  pub may-all : MayStrip half cards → failing (λ _. futureFits) 0 cards ≡ None
-  may-all may = all-pass (λ _. futureFits) noLine cards (may .fitting)
-
-  module _ (grid : Half) (fitting : failing (λ _. futureFits) 0 cards ≡ None) (of-half : halfOf half ≡ Some grid) (some : 1 ≤ length cards) (few : length cards ≤ 16) where
-    pub each-fits : (k : ℕ) → k < length cards → futureFits (getD cards k noLine) ≡ true
-    each-fits = none-fails (λ _. futureFits) noLine cards fitting
-
-    pub strip-may : MayStrip half cards
-    strip-may = record { grid = grid; of-half = of-half; some-line = some; few-lines = few; fitting = each-fits }
-
-    pub strip-made : (quotes : List Quote) → ((k : ℕ) → k < length cards → getD quotes k noQuote ≡ quoteOf grid (getD cards k noLine)) → Ok (stripMeaning (record { half = grid; count = length cards; reach = stripReach grid cards; quotes = quotes })) ≡ stripMade half cards
-    unfolding rest
-    strip-made quotes each =
-        ap Ok (strip-means grid cards some few each-fits quotes each)
-        ∙ sym (ap (λ f. before (refusedAt BadCard f) rest) fitting
-        ∙ ap (λ h. onHalf h (λ g. decided (first (unless (within (pos 1) (pos 16) (pos (length cards))) WrongShape ∷ [])) (stripOf g cards))) of-half
-        ∙ ap (λ b. decided (first (unless b WrongShape ∷ [])) (stripOf grid cards)) (and-from _ _ (le-leb 1 (length cards) some) (le-leb (length cards) 16 few)))
+  pub strip-made : (grid : Half) → stripJudged half cards ≡ Ok grid → (quotes : List Quote) → ((k : ℕ) → k < length cards → getD quotes k noQuote ≡ quoteOf grid (getD cards k noLine)) → Ok (stripMeaning (record { half = grid; count = length cards; reach = stripReach grid cards; quotes = quotes })) ≡ stripMade half cards
+  strip-made grid e quotes each =
+      let s = strip-passed grid e in
+      ap Ok (strip-means grid cards (s .some-line) (s .few-lines) (s .fitting) quotes each) ∙ sym (ap (λ j. making j (λ g. stripOf g cards)) e)

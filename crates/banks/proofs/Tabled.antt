@@ -10,7 +10,7 @@ use lib.Dec.{leb, ltb, eqb, lit≤}
 use lib.IntN.{ℤ, pos, negsuc, natAbs}
 use lib.ListN.{length, getD}
 use Rattle.std.proofs.shelf.Lists.{getD-past}
-use Rattle.std.proofs.shelf.Tests.{leb-true, eq-eqb, and-parts, cases-lt, false≢true}
+use Rattle.std.proofs.shelf.Tests.{leb-true, eq-eqb, eqb-true, and-parts, cases-lt, false≢true}
 use Rattle.std.specs.declared.option.Option.{Option}
 use Rattle.std.specs.declared.option.Option.the-variants.{Some, None}
 use Rattle.std.specs.declared.result.Result.{Result}
@@ -21,10 +21,11 @@ use Rattle.terms.specs.declared.half.Half.{Half}
 use Rattle.terms.specs.declared.refusal.Refusal.{Refusal}
 use Rattle.terms.specs.declared.refusal.Refusal.the-variants.{OutsideField, WrongLength, WrongShape}
 use Rattle.banks.specs.Meanings.{Meaning, columns, grains, bounded}
-use Rattle.banks.specs.Outcomes.{unless, failing, refusedAt, first, decided, onHalf}
+use Rattle.banks.specs.Outcomes.{unless, failing, decided, onHalf, making}
 use Rattle.banks.specs.Soundness.{size-product}
-use Rattle.banks.specs.Tables.{mostEntry, entryAt, entries, fitsAt, listed, tableOf, tableRefusal, tableMade, MayTabulate}
+use Rattle.banks.specs.Tables.{mostEntry, entryAt, entries, fitsAt, listed, tableOf, tableChecks, tableJudged, tableMade, Tabulates}
 use Rattle.banks.proofs.Bounded.{bounded-is}
+use Rattle.banks.proofs.Judged.{pass-unless, pass-places, passed-half, passed-unless, passed-places}
 use Rattle.banks.proofs.Places.{all-pass, none-fails}
 
 -- ---- ranges as facts
@@ -69,27 +70,31 @@ module _ (grid : Half) (lines : ℕ) (list : List ℤ) (some : 1 ≤ lines) (few
 
 -- ---- the outcome
 
-module _ (half lines : ℤ) (list : List ℤ) (grid : Half) (of-half : halfOf half ≡ Some grid) (few : within (pos 1) (pos 16) lines ≡ true) (whole : length list ≡ entries grid (natAbs lines)) where
-  judged : tableMade half lines list ≡ decided (first (refusedAt OutsideField (failing (fitsAt grid) 0 list) ∷ [])) (tableOf grid (natAbs lines) list)
-  judged =
-      ap (λ h. onHalf h (λ g. decided (tableRefusal g lines list) (tableOf g (natAbs lines) list))) of-half
-      ∙ ap (λ b. decided (first (unless b WrongShape ∷ unless (eqb (length list) (entries grid (natAbs lines))) (WrongLength (entries grid (natAbs lines))) ∷ refusedAt OutsideField (failing (fitsAt grid) 0 list) ∷ [])) (tableOf grid (natAbs lines) list)) few
-      ∙ ap (λ b. decided (first (unless b (WrongLength (entries grid (natAbs lines))) ∷ refusedAt OutsideField (failing (fitsAt grid) 0 list) ∷ [])) (tableOf grid (natAbs lines) list)) (eq-eqb (length list) (entries grid (natAbs lines)) whole)
+module _ (half lines : ℤ) (list : List ℤ) where
+  pub table-passed : (grid : Half) → tableJudged half lines list ≡ Ok grid → Tabulates half lines list grid
+  table-passed grid e =
+      let h = passed-half (halfOf half) (λ g. decided (tableChecks lines list g) g) grid e in
+      let counted = passed-unless (within (pos 1) (pos 16) lines) WrongShape _ grid (h .2) in
+      let long = passed-unless (eqb (length list) (entries (h .0) (natAbs lines))) _ _ grid (counted .1) in
+      let all = passed-places (failing (fitsAt (h .0)) 0 list) OutsideField _ grid (long .1) in
+      let own : h .0 ≡ grid = cc (all .1) in
+      subst (Tabulates half lines list) own (record {
+        of-half = h .1;
+        few-lines = counted .0;
+        whole = eqb-true (length list) (entries (h .0) (natAbs lines)) (long .0);
+        fitting = none-fails (fitsAt (h .0)) (pos 0) list (all .0);
+      })
 
-  pub table-refused : (place : ℕ) → failing (fitsAt grid) 0 list ≡ Some place → Err (OutsideField place) ≡ tableMade half lines list
-  table-refused place bad =
-      sym (judged ∙ ap (λ f. decided (first (refusedAt OutsideField f ∷ [])) (tableOf grid (natAbs lines) list)) bad)
+  pub table-allowed : (grid : Half) → Tabulates half lines list grid → tableJudged half lines list ≡ Ok grid
+  table-allowed grid t =
+      ap (λ h. onHalf h (λ g. decided (tableChecks lines list g) g)) (t .of-half)
+      ∙ pass-unless _ _ WrongShape (t .few-lines)
+      ∙ pass-unless _ _ _ (eq-eqb (length list) (entries grid (natAbs lines)) (t .whole))
+      ∙ pass-places _ _ OutsideField (all-pass (fitsAt grid) (pos 0) list (t .fitting))
 
-  pub table-made : failing (fitsAt grid) 0 list ≡ None → Ok (bounded grid (natAbs lines) (grains * mostEntry) (listed grid list)) ≡ tableMade half lines list
-  table-made fitting =
-      let range = count-range lines few in
-      ap Ok (table-means grid (natAbs lines) list (range .0) (range .1) fitting)
-      ∙ sym (judged ∙ ap (λ f. decided (first (refusedAt OutsideField f ∷ [])) (tableOf grid (natAbs lines) list)) fitting)
-
-  pub table-may : failing (fitsAt grid) 0 list ≡ None → MayTabulate half lines list
-  table-may fitting = record { grid = grid; of-half = of-half; few-lines = few; whole = whole; fitting = none-fails (fitsAt grid) (pos 0) list fitting }
-
-  pub may-fit : MayTabulate half lines list → failing (fitsAt grid) 0 list ≡ None
-  may-fit may =
-      let same : may .grid ≡ grid = cc (may .of-half, of-half) in
-      subst (λ g. failing (fitsAt g) 0 list ≡ None) same (all-pass (fitsAt (may .grid)) (pos 0) list (may .fitting))
+  pub table-made : (grid : Half) → tableJudged half lines list ≡ Ok grid → Ok (bounded grid (natAbs lines) (grains * mostEntry) (listed grid list)) ≡ tableMade half lines list
+  table-made grid e =
+      let t = table-passed grid e in
+      let range = count-range lines (t .few-lines) in
+      ap Ok (table-means grid (natAbs lines) list (range .0) (range .1) (all-pass (fitsAt grid) (pos 0) list (t .fitting)))
+      ∙ sym (ap (λ j. making j (λ g. tableOf g (natAbs lines) list)) e)

@@ -6,14 +6,13 @@ use Prim.Native.Nat.{ℕ, _+_, _-_, _*_, _≤_, min, max}
 use lib.Dec.{leb, ltb, eqb}
 use lib.IntN.{ℤ, pos, negsuc, natAbs, _*ℤ_}
 use lib.Signed.{leZ}
-use Rattle.std.specs.declared.option.Option.{Option}
 use Rattle.std.specs.declared.result.Result.{Result}
 use Rattle.terms.specs.Cards.{within}
 use Rattle.terms.specs.Halves.{halfSize}
 use Rattle.terms.specs.declared.refusal.Refusal.{Refusal}
 use Rattle.terms.specs.declared.refusal.Refusal.the-variants.{WrongShape, BadQuantity, ReachTooLarge}
 use Rattle.banks.specs.Meanings.{Meaning, capped, exactly, mostLines, mostReach}
-use Rattle.banks.specs.Outcomes.{unless, first, decided}
+use Rattle.banks.specs.Outcomes.{unless, decided}
 
 -- ---- a pair: two banks of equal half side by side
 
@@ -29,11 +28,8 @@ abbrev pub pairOf : Meaning → Meaning → Meaning
 pairOf a b = paired (a .lines + b .lines) a b
 
 -- 6: unequal halves, or more lines than a bank may have
-abbrev pub pairRefusal : Meaning → Meaning → Option Refusal
-pairRefusal a b = first (unless (eqb (halfSize (a .half)) (halfSize (b .half))) WrongShape ∷ unless (leb (a .lines + b .lines) mostLines) WrongShape ∷ [])
-
 abbrev pub pairMade : Meaning → Meaning → Result Meaning Refusal
-pairMade a b = decided (pairRefusal a b) (pairOf a b)
+pairMade a b = decided (unless (eqb (halfSize (a .half)) (halfSize (b .half))) WrongShape ∷ unless (leb (a .lines + b .lines) mostLines) WrongShape ∷ []) (pairOf a b)
 
 -- when two banks may be paired
 pub record MayPair (a b : Meaning) : Type 0 where
@@ -50,11 +46,8 @@ abbrev pub scaleOf : ℕ → Meaning → Meaning
 scaleOf factor m = record { half = m .half; lines = m .lines; reach = factor * m .reach; price = λ line point column. pos factor *ℤ m .price line point column }
 
 -- 9: a factor that is not 1 to 100; 7: a reach over the bound
-abbrev pub scaleRefusal : ℤ → Meaning → Option Refusal
-scaleRefusal factor m = first (unless (within (pos 1) (pos 100) factor) BadQuantity ∷ unless (leb (natAbs factor * m .reach) mostReach) ReachTooLarge ∷ [])
-
 abbrev pub scaleMade : ℤ → Meaning → Result Meaning Refusal
-scaleMade factor m = decided (scaleRefusal factor m) (scaleOf (natAbs factor) m)
+scaleMade factor m = decided (unless (within (pos 1) (pos 100) factor) BadQuantity ∷ unless (leb (natAbs factor * m .reach) mostReach) ReachTooLarge ∷ []) (scaleOf (natAbs factor) m)
 
 -- when a bank may be scaled
 pub record MayScale (factor : ℤ) (m : Meaning) : Type 0 where

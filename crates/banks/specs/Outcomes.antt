@@ -28,26 +28,25 @@ abbrev pub refusedAt : (ℕ → Refusal) → Option ℕ → Option Refusal
 refusedAt why None = None
 refusedAt why (Some place) = Some (why place)
 
--- checks run in their order, and the first that refuses decides
-abbrev pub first : List (Option Refusal) → Option Refusal
-first [] = None
-first (None ∷ checks) = first checks
-first (Some why ∷ checks) = Some why
-
 -- a check that goes before all that follows
-abbrev pub before : Option Refusal → Result Meaning Refusal → Result Meaning Refusal
+abbrev pub before : {X : Type 0} → Option Refusal → Result X Refusal → Result X Refusal
 before None rest = rest
 before (Some why) rest = Err why
 
--- the meaning of what is made, or the refusal
-abbrev pub decided : Option Refusal → Meaning → Result Meaning Refusal
-decided None meaning = Ok meaning
-decided (Some why) meaning = Err why
+-- checks run in their order, and the first that refuses decides
+abbrev pub decided : {X : Type 0} → List (Option Refusal) → X → Result X Refusal
+decided [] x = Ok x
+decided (check ∷ checks) x = before check (decided checks x)
 
--- what is made on the grid of a size; 6 where no grid has that size
-abbrev pub onHalf : Option Half → (Half → Result Meaning Refusal) → Result Meaning Refusal
-onHalf None make = Err WrongShape
-onHalf (Some half) make = make half
+-- the checks of the grid of a size; 6 where no grid has that size
+abbrev pub onHalf : {X : Type 0} → Option Half → (Half → Result X Refusal) → Result X Refusal
+onHalf None checks = Err WrongShape
+onHalf (Some half) checks = checks half
+
+-- what is made of what passed the checks
+abbrev pub making : {X : Type 0} → Result X Refusal → (X → Meaning) → Result Meaning Refusal
+making (Ok x) meaning = Ok (meaning x)
+making (Err why) meaning = Err why
 
 -- what a caller is told: the meaning of the bank that was made, or the refusal
 abbrev pub told : {B : Type 0} → (B → Meaning) → Result B Refusal → Result Meaning Refusal

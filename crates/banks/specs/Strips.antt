@@ -17,7 +17,7 @@ use Rattle.terms.specs.declared.half.Half.{Half}
 use Rattle.terms.specs.declared.refusal.Refusal.{Refusal}
 use Rattle.terms.specs.declared.refusal.Refusal.the-variants.{BadCard, WrongShape}
 use Rattle.banks.specs.Meanings.{Meaning, grains, exactly, bounded}
-use Rattle.banks.specs.Outcomes.{unless, failing, refusedAt, first, before, decided, onHalf}
+use Rattle.banks.specs.Outcomes.{unless, failing, refusedAt, before, decided, onHalf, making}
 use Rattle.banks.specs.declared.strip.Quote.{Quote}
 use Rattle.banks.specs.declared.strip.Strip.{Strip}
 
@@ -51,19 +51,25 @@ carded half cards line = quoted half (quoteOf half (getD cards line noLine))
 abbrev pub stripOf : Half → List Line → Meaning
 stripOf half cards = exactly half (length cards) (stripReach half cards) (carded half cards)
 
--- 4: the first card with a number outside its field, or whose rates or limits fall. 6: a half that no grid has; lines that are not 1 to 16
-abbrev pub stripMade : ℤ → List Line → Result Meaning Refusal
-stripMade half cards =
+-- 4: the first card with a number outside its field, or whose rates or limits fall; 6: a half that no grid has, or lines that are not 1 to 16
+abbrev pub stripJudged : ℤ → List Line → Result Half Refusal
+stripJudged half cards =
     before (refusedAt BadCard (failing (λ place. futureFits) 0 cards))
-    (onHalf (halfOf half) (λ h. decided (first (unless (within (pos 1) (pos 16) (pos (length cards))) WrongShape ∷ [])) (stripOf h cards)))
+    (onHalf (halfOf half) (λ grid. decided (unless (within (pos 1) (pos 16) (pos (length cards))) WrongShape ∷ []) grid))
 
--- when cards may be a strip
-pub record MayStrip (half : ℤ) (cards : List Line) : Type 0 where
-  pub grid : Half
+abbrev pub stripMade : ℤ → List Line → Result Meaning Refusal
+stripMade half cards = making (stripJudged half cards) (λ grid. stripOf grid cards)
+
+-- what makes cards a strip on a grid
+pub record Strips (half : ℤ) (cards : List Line) (grid : Half) : Type 0 where
   pub of-half : halfOf half ≡ Some grid
   pub some-line : 1 ≤ length cards
   pub few-lines : length cards ≤ 16
   pub fitting : (place : ℕ) → place < length cards → futureFits (getD cards place noLine) ≡ true
+
+-- when cards may be a strip
+abbrev pub MayStrip : ℤ → List Line → Type 0
+MayStrip half cards = (grid : Half) × Strips half cards grid
 
 abbrev pub noQuote : Quote
 noQuote = record { base = 0; step = 0; change = 0 }

@@ -16,7 +16,7 @@ use Rattle.terms.specs.declared.half.Half.{Half}
 use Rattle.terms.specs.declared.refusal.Refusal.{Refusal}
 use Rattle.terms.specs.declared.refusal.Refusal.the-variants.{OutsideField, WrongLength, WrongShape}
 use Rattle.banks.specs.Meanings.{Meaning, grains, columns, exactly, bounded}
-use Rattle.banks.specs.Outcomes.{unless, failing, refusedAt, first, decided, onHalf}
+use Rattle.banks.specs.Outcomes.{unless, failing, refusedAt, decided, onHalf, making}
 use Rattle.banks.specs.declared.table.Table.{Table}
 
 -- the largest entry, in kopecks
@@ -42,21 +42,26 @@ listed half list line point column = pos grains *ℤ getD list (entryAt half lin
 abbrev pub tableOf : Half → ℕ → List ℤ → Meaning
 tableOf half lines list = exactly half lines (grains * mostEntry) (listed half list)
 
--- 6: lines that are not 1 to 16; 5: a list of another length; 2: the first entry outside its field
-abbrev pub tableRefusal : Half → ℤ → List ℤ → Option Refusal
-tableRefusal half lines list = first (unless (within (pos 1) (pos 16) lines) WrongShape ∷ unless (eqb (length list) (entries half (natAbs lines))) (WrongLength (entries half (natAbs lines))) ∷ refusedAt OutsideField (failing (fitsAt half) 0 list) ∷ [])
+-- 6: a half that no grid has, or lines that are not 1 to 16; 5: a list of another length; 2: the first entry outside its field
+abbrev pub tableChecks : ℤ → List ℤ → Half → List (Option Refusal)
+tableChecks lines list grid = unless (within (pos 1) (pos 16) lines) WrongShape ∷ unless (eqb (length list) (entries grid (natAbs lines))) (WrongLength (entries grid (natAbs lines))) ∷ refusedAt OutsideField (failing (fitsAt grid) 0 list) ∷ []
 
--- 6 comes first where no grid has that half
+abbrev pub tableJudged : ℤ → ℤ → List ℤ → Result Half Refusal
+tableJudged half lines list = onHalf (halfOf half) (λ grid. decided (tableChecks lines list grid) grid)
+
 abbrev pub tableMade : ℤ → ℤ → List ℤ → Result Meaning Refusal
-tableMade half lines list = onHalf (halfOf half) (λ h. decided (tableRefusal h lines list) (tableOf h (natAbs lines) list))
+tableMade half lines list = making (tableJudged half lines list) (λ grid. tableOf grid (natAbs lines) list)
 
--- when a list may be a table
-pub record MayTabulate (half lines : ℤ) (list : List ℤ) : Type 0 where
-  pub grid : Half
+-- what makes a list a table on a grid
+pub record Tabulates (half lines : ℤ) (list : List ℤ) (grid : Half) : Type 0 where
   pub of-half : halfOf half ≡ Some grid
   pub few-lines : within (pos 1) (pos 16) lines ≡ true
   pub whole : length list ≡ entries grid (natAbs lines)
   pub fitting : (place : ℕ) → place < length list → fitsAt grid place (getD list place (pos 0)) ≡ true
+
+-- when a list may be a table
+abbrev pub MayTabulate : ℤ → ℤ → List ℤ → Type 0
+MayTabulate half lines list = (grid : Half) × Tabulates half lines list grid
 
 -- any half, count and list
 abbrev pub tableMeaning : Table → Meaning

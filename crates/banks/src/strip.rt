@@ -7,7 +7,7 @@ ghost use lib.IntN.{pos, negℤ, natAbs, _+ℤ_, _-ℤ_, _*ℤ_};
 ghost use lib.ListN.{length, getD};
 ghost use Rattle.banks.specs.Outcomes.{failing, told, MadeExactlyWhen};
 ghost use Rattle.banks.specs.Soundness.{bounded-sound};
-ghost use Rattle.banks.specs.Strips.{quoteOf, quoted, quoteReach, stripReach, noLine, noQuote, stripMade, stripMeaning, MayStrip};
+ghost use Rattle.banks.specs.Strips.{quoteOf, quoted, quoteReach, stripReach, noLine, noQuote, stripJudged, stripMade, stripMeaning, MayStrip};
 ghost use Rattle.terms.specs.Cards.{futureFits};
 ghost use Rattle.terms.specs.Halves.{halfSize, stepsOf};
 use crate::bank::Bank;
@@ -71,22 +71,32 @@ impl Strip {
         ensures made { λ r. ⌜ told stripMeaning r ≡ stripMade half (now (futures .entry)) ⌝ }
         ensures law { λ r. ⌜ MadeExactlyWhen r (MayStrip half (now (futures .entry))) ⌝ }
     {
-        if let Some(card) = first_unfit(futures) {
-            return Err(Refusal::BadCard(card));
+        match judged(half, futures) {
+            Err(why) => Err(why),
+            Ok(half) => Ok(Strip {
+                half,
+                count: futures.len(),
+                reach: widest(half, futures),
+                quotes: quotes(half, futures),
+            }),
         }
-        let Some(grid) = Half::of(half) else {
-            return Err(Refusal::WrongShape);
-        };
-        if futures.is_empty() || futures.len() > MOST_LINES {
-            return Err(Refusal::WrongShape);
-        }
-        Ok(Strip {
-            half: grid,
-            count: futures.len(),
-            reach: widest(grid, futures),
-            quotes: quotes(grid, futures),
-        })
     }
+}
+
+// The grid of cards that may be a strip, or the first refusal.
+fn judged(half: i64, futures: &[Line]) -> Result<Half, Refusal>
+    ensures { λ r. ⌜ r ≡ stripJudged half (now (futures .entry)) ⌝ }
+{
+    if let Some(card) = first_unfit(futures) {
+        return Err(Refusal::BadCard(card));
+    }
+    let Some(grid) = Half::of(half) else {
+        return Err(Refusal::WrongShape);
+    };
+    if futures.is_empty() || futures.len() > MOST_LINES {
+        return Err(Refusal::WrongShape);
+    }
+    Ok(grid)
 }
 
 // The place of the first card that fits no future, if there is one.

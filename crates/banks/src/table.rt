@@ -7,7 +7,7 @@ ghost use lib.ListN.{getD};
 ghost use Rattle.banks.specs.Meanings.{grains};
 ghost use Rattle.banks.specs.Outcomes.{failing, told, MadeExactlyWhen};
 ghost use Rattle.banks.specs.Soundness.{bounded-sound};
-ghost use Rattle.banks.specs.Tables.{mostEntry, listed, entryAt, entries as entryCount, fitsAt, tableMade, tableMeaning, MayTabulate};
+ghost use Rattle.banks.specs.Tables.{mostEntry, listed, entryAt, entries as entryCount, fitsAt, tableJudged, tableMade, tableMeaning, MayTabulate};
 use crate::bank::Bank;
 use crate::size::COLUMNS;
 use crate::size::MOST_LINES;
@@ -70,22 +70,11 @@ impl<'a> Table<'a> {
         ensures made { λ r. ⌜ told tableMeaning r ≡ tableMade half lines (now (entries .entry)) ⌝ }
         ensures law { λ r. ⌜ MadeExactlyWhen r (MayTabulate half lines (now (entries .entry))) ⌝ }
     {
-        let Some(grid) = Half::of(half) else {
-            return Err(Refusal::WrongShape);
-        };
-        if !between(lines, 1, 16) {
-            return Err(Refusal::WrongShape);
-        }
-        let count = lines as usize;
-        let wanted = length(grid, count);
-        if entries.len() != wanted {
-            return Err(Refusal::WrongLength(wanted));
-        }
-        match first_bad(grid, entries) {
-            Some(place) => Err(Refusal::OutsideField(place)),
-            None => Ok(Table {
-                half: grid,
-                count,
+        match judged(half, lines, entries) {
+            Err(why) => Err(why),
+            Ok(half) => Ok(Table {
+                half,
+                count: lines as usize,
                 entries,
             }),
         }
@@ -100,6 +89,26 @@ impl<'a> Table<'a> {
         } else {
             0
         }
+    }
+}
+
+// The grid of a list that may be a table, or the first refusal.
+fn judged(half: i64, lines: i64, entries: &[i64]) -> Result<Half, Refusal>
+    ensures { λ r. ⌜ r ≡ tableJudged half lines (now (entries .entry)) ⌝ }
+{
+    let Some(grid) = Half::of(half) else {
+        return Err(Refusal::WrongShape);
+    };
+    if !between(lines, 1, 16) {
+        return Err(Refusal::WrongShape);
+    }
+    let wanted = length(grid, lines as usize);
+    if entries.len() != wanted {
+        return Err(Refusal::WrongLength(wanted));
+    }
+    match first_bad(grid, entries) {
+        Some(place) => Err(Refusal::OutsideField(place)),
+        None => Ok(grid),
     }
 }
 

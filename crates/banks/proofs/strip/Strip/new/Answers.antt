@@ -1,45 +1,55 @@
-use mathlib.Core.Path.{_≡_, refl, sym, ap, _∙_}
-use Prim.Native.Nat.{_≤_}
-use native.Mathlib.Omega.{arith}
+use mathlib.Core.Path.{_≡_, sym, ap, _∙_}
+use mathlib.Core.List.{List}
+use lib.IntN.{ℤ}
 use lib.ListN.{length}
 use mir.Syntax.{w64}
+use mir.Val.{SFits, toZ, ofZ}
 use Rattle.std.proofs.shelf.Signed.{toZ-ofZ}
-use Rattle.std.proofs.shelf.Tests.{eqb-false, false≢true}
-use Rattle.std.specs.declared.option.Option.the-variants.{Some, None}
-use Rattle.terms.specs.Cards.{futureFits}
-use Rattle.terms.specs.Halves.{halfOf}
-use Rattle.banks.specs.Outcomes.{failing}
-use Rattle.banks.specs.Strips.{noLine, stripMeaning}
-use Rattle.std.specs.declared.result.Result.the-variants.{Ok}
-use Rattle.banks.proofs.Places.{none-fails, some-is-none}
-use Rattle.banks.proofs.Stripped.{strip-refused, strip-may, strip-made, may-all}
+use Rattle.std.specs.declared.result.Result.{Result}
+use Rattle.std.specs.declared.result.Result.the-variants.{Ok, Err}
+use Rattle.terms.specs.declared.cards.Line.{Line}
+use Rattle.terms.specs.declared.half.Half.{Half}
+use Rattle.terms.specs.declared.refusal.Refusal.{Refusal}
+use Rattle.banks.specs.Outcomes.{making, told}
+use Rattle.banks.specs.Strips.{stripOf, stripJudged, stripMade, MayStrip, Strips, stripMeaning}
+use Rattle.banks.specs.Outcomes.{MadeExactlyWhen}
+use Rattle.banks.specs.declared.strip.Strip.{Strip}
+use Rattle.banks.proofs.Judged.{made-law}
+use Rattle.banks.proofs.Stripped.{strip-passed, strip-allowed, strip-made}
 use Rattle.banks.proofs.strip.Strip.new.Needs as need
 
-pub returns-in-Some : need.returns-in-Some
-returns-in-Some c =
-    let bad : failing (λ _. futureFits) 0 (c .args .futures .now) ≡ Some (c .in-Some .card) = sym (c .first-unfit .ensures) ∙ c .in-Some .is in
-    record {
-      made = strip-refused (c .args .half) (c .args .futures .now) (c .in-Some .card) bad;
-      law = ((λ may. absurd (some-is-none _ (sym bad ∙ may-all (c .args .half) (c .args .futures .now) may))), (λ made. absurd (false≢true made)));
-    }
+-- how the half was judged, whichever way it was passed on
+judged-as : (half : ℤ) (cards : List Line) (r j : Result Half Refusal) → SFits w64 half → r ≡ stripJudged (toZ w64 (ofZ w64 half)) cards → r ≡ j → stripJudged half cards ≡ j
+judged-as half cards r j whole e is = simp (toZ-ofZ w64 half whole) at (sym e ∙ is)
+
+law : (half : ℤ) (cards : List Line) (r : Result Strip Refusal) → told stripMeaning r ≡ stripMade half cards → MadeExactlyWhen r (MayStrip half cards)
+law half cards =
+    made-law stripMeaning (stripJudged half cards) _ (Strips half cards) (strip-passed half cards) (strip-allowed half cards)
+
+pub returns-in-Err : need.returns-in-Err
+returns-in-Err c =
+    let half = c .args .half in
+    let cards = c .args .futures .now in
+    let judged = judged-as half cards _ _ (c .fits .half) (c .judged .ensures) (c .in-Err .is) in
+    let made = sym (ap (λ j. making j (λ grid. stripOf grid cards)) judged) in
+    record { made = made; law = law half cards (Err (c .in-Err .why)) made }
 
 pub widest-requires : need.widest-requires
 widest-requires c κs =
-    none-fails (λ _. futureFits) noLine (c .args .futures .now) (sym (c .first-unfit .ensures) ∙ c .in-rest .is)
+    strip-passed (c .args .half) (c .args .futures .now) (c .in-Ok .half) (judged-as (c .args .half) (c .args .futures .now) _ _ (c .fits .half) (c .judged .ensures) (c .in-Ok .is)) .fitting
 
 pub quotes-requires : need.quotes-requires
 quotes-requires c κs =
-    record { fitting = none-fails (λ _. futureFits) noLine (c .args .futures .now) (sym (c .first-unfit .ensures) ∙ c .in-rest .is); few = c .if-futures-gt-MOST-LINES .left }
+    let s = strip-passed (c .args .half) (c .args .futures .now) (c .in-Ok .half) (judged-as (c .args .half) (c .args .futures .now) _ _ (c .fits .half) (c .judged .ensures) (c .in-Ok .is)) in
+    record { fitting = s .fitting; few = s .few-lines }
 
-pub returns : need.returns
-returns c =
+pub returns-in-Ok : need.returns-in-Ok
+returns-in-Ok c =
+    let half = c .args .half in
     let cards = c .args .futures .now in
-    let fitting : failing (λ _. futureFits) 0 cards ≡ None = sym (c .first-unfit .ensures) ∙ c .in-rest .is in
-    let of-half : halfOf (c .args .half) ≡ Some (c .in-Some-of .grid) = simp (toZ-ofZ w64 (c .args .half) (c .fits .half)) at (sym (c .of .ensures) ∙ c .in-Some-of .is) in
-    let some : 1 ≤ length cards = let ne : length cards ≡ 0 → ⊥ = eqb-false (length cards) 0 (sym (c .if-is-empty .ensures tt)) in omega (arith, ne) in
-    let few : length cards ≤ 16 = c .if-futures-gt-MOST-LINES .left in
-    record {
-      made = ap (λ reach. Ok (stripMeaning (record { half = c .in-Some-of .grid; count = length cards; reach = reach; quotes = c .quotes .result }))) (c .widest .ensures)
-          ∙ strip-made (c .args .half) cards (c .in-Some-of .grid) fitting of-half some few (c .quotes .result) (c .quotes .ensures .each);
-      law = ((λ _. refl), (λ _. strip-may (c .args .half) cards (c .in-Some-of .grid) fitting of-half some few));
-    }
+    let judged = judged-as half cards _ _ (c .fits .half) (c .judged .ensures) (c .in-Ok .is) in
+    let strip : Strip = record { half = c .in-Ok .half; count = length cards; reach = c .widest .result; quotes = c .quotes .result } in
+    let made : Ok (stripMeaning strip) ≡ stripMade half cards =
+      ap (λ reach. Ok (stripMeaning (record { half = c .in-Ok .half; count = length cards; reach = reach; quotes = c .quotes .result }))) (c .widest .ensures)
+      ∙ strip-made half cards (c .in-Ok .half) judged (c .quotes .result) (c .quotes .ensures .each) in
+    record { made = made; law = law half cards (Ok strip) made }

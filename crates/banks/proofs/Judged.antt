@@ -1,0 +1,56 @@
+-- A bank is made exactly when its checks pass.
+use mathlib.Core.Path.{_≡_, refl, sym, ap, _∙_}
+use mathlib.Core.Bool.{Bool, true, false}
+use mathlib.Core.List.{List, [], _∷_}
+use Prim.Native.Nat.{ℕ}
+use native.Mathlib.Omega.{arith}
+use Rattle.std.proofs.shelf.Tests.{false≢true}
+use Rattle.std.specs.declared.option.Option.{Option}
+use Rattle.std.specs.declared.option.Option.the-variants.{Some, None}
+use Rattle.std.specs.declared.result.Result.{Result}
+use Rattle.std.specs.declared.result.Result.the-variants.{Ok, Err}
+use Rattle.terms.specs.declared.half.Half.{Half}
+use Rattle.terms.specs.declared.refusal.Refusal.{Refusal}
+use Rattle.banks.specs.Meanings.{Meaning}
+use Rattle.banks.specs.Outcomes.{unless, refusedAt, before, decided, onHalf, making, told, MadeExactlyWhen}
+
+pub err-is-ok : {X : Type 0} (why : Refusal) (x : X) → _≡_ {A = Result X Refusal} (Err why) (Ok x) → ⊥
+err-is-ok why x e = let z : _≡_ {A = ℕ} 0 1 = cc in omega arith
+
+-- ---- what lets a check pass
+
+module _ {X : Type 0} (rest : Result X Refusal) where
+  pub pass-unless : (b : Bool) (why : Refusal) → b ≡ true → before (unless b why) rest ≡ rest
+  pass-unless b why e = ap (λ t. before (unless t why) rest) e
+
+  pub pass-places : (place : Option ℕ) (why : ℕ → Refusal) → place ≡ None → before (refusedAt why place) rest ≡ rest
+  pass-places place why e = ap (λ p. before (refusedAt why p) rest) e
+
+-- ---- what passed
+
+-- a test that a check passed
+pub passed-unless : {X : Type 0} (b : Bool) (why : Refusal) (rest : Result X Refusal) (x : X) → before (unless b why) rest ≡ Ok x → (b ≡ true) × (rest ≡ Ok x)
+passed-unless true why rest x e = (refl, e)
+passed-unless false why rest x e = absurd (err-is-ok why x e)
+
+-- a place that a check did not find
+pub passed-places : {X : Type 0} (place : Option ℕ) (why : ℕ → Refusal) (rest : Result X Refusal) (x : X) → before (refusedAt why place) rest ≡ Ok x → (place ≡ None) × (rest ≡ Ok x)
+passed-places None why rest x e = (refl, e)
+passed-places (Some k) why rest x e = absurd (err-is-ok (why k) x e)
+
+-- a half that a grid has
+pub passed-half : {X : Type 0} (half : Option Half) (checks : Half → Result X Refusal) (x : X) → onHalf half checks ≡ Ok x → (grid : Half) × (half ≡ Some grid) × (checks grid ≡ Ok x)
+passed-half None checks x e = absurd (err-is-ok _ x e)
+passed-half (Some grid) checks x e = (grid, refl, e)
+
+-- ---- the law of a constructor, from its outcome
+
+module _ {B X : Type 0} (meaning : B → Meaning) (judged : Result X Refusal) (of : X → Meaning) (May : X → Type 0) (passes : (x : X) → judged ≡ Ok x → May x) (allowed : (x : X) → May x → judged ≡ Ok x) where
+  pub made-law : (r : Result B Refusal) → told meaning r ≡ making judged of → MadeExactlyWhen r ((x : X) × May x)
+  made-law (Ok bank) e = ((λ _. refl), (λ _. go judged refl e))
+    where
+      go : (j : Result X Refusal) → judged ≡ j → _≡_ {A = Result Meaning Refusal} (Ok (meaning bank)) (making j of) → (x : X) × May x
+      go (Ok x) is e = (x, passes x is)
+      go (Err why) is e = absurd (err-is-ok why (meaning bank) (sym e))
+  made-law (Err why) e =
+      ((λ may. absurd (err-is-ok why (of (may .0)) (e ∙ ap (λ j. making j of) (allowed (may .0) (may .1))))), (λ made. absurd (false≢true made)))
