@@ -1,7 +1,6 @@
 -- A bank is made exactly when its checks pass.
 use mathlib.Core.Path.{_≡_, refl, sym, ap, _∙_}
 use mathlib.Core.Bool.{Bool, true, false}
-use mathlib.Core.List.{List, [], _∷_}
 use Prim.Native.Nat.{ℕ}
 use native.Mathlib.Omega.{arith}
 use Rattle.std.proofs.shelf.Tests.{false≢true}
@@ -11,8 +10,7 @@ use Rattle.std.specs.declared.result.Result.{Result}
 use Rattle.std.specs.declared.result.Result.the-variants.{Ok, Err}
 use Rattle.terms.specs.declared.half.Half.{Half}
 use Rattle.terms.specs.declared.refusal.Refusal.{Refusal}
-use Rattle.banks.specs.Meanings.{Meaning}
-use Rattle.banks.specs.Outcomes.{unless, refusedAt, before, decided, onHalf, making, told, MadeExactlyWhen}
+use Rattle.banks.specs.Outcomes.{unless, refusedAt, before, onHalf}
 
 pub err-is-ok : {X : Type 0} (why : Refusal) (x : X) → _≡_ {A = Result X Refusal} (Err why) (Ok x) → ⊥
 err-is-ok why x e = let z : _≡_ {A = ℕ} 0 1 = cc in omega arith
@@ -43,14 +41,12 @@ pub passed-half : {X : Type 0} (half : Option Half) (checks : Half → Result X 
 passed-half None checks x e = absurd (err-is-ok _ x e)
 passed-half (Some grid) checks x e = (grid, refl, e)
 
--- ---- the law of a constructor, from its outcome
+-- ---- the law of a constructor: its checks pass exactly when it may make something
 
-module _ {B X : Type 0} (meaning : B → Meaning) (judged : Result X Refusal) (of : X → Meaning) (May : X → Type 0) (passes : (x : X) → judged ≡ Ok x → May x) (allowed : (x : X) → May x → judged ≡ Ok x) where
-  pub made-law : (r : Result B Refusal) → told meaning r ≡ making judged of → MadeExactlyWhen r ((x : X) × May x)
-  made-law (Ok bank) e = ((λ _. refl), (λ _. go judged refl e))
-    where
-      go : (j : Result X Refusal) → judged ≡ j → _≡_ {A = Result Meaning Refusal} (Ok (meaning bank)) (making j of) → (x : X) × May x
-      go (Ok x) is e = (x, passes x is)
-      go (Err why) is e = absurd (err-is-ok why (meaning bank) (sym e))
-  made-law (Err why) e =
-      ((λ may. absurd (err-is-ok why (of (may .0)) (e ∙ ap (λ j. making j of) (allowed (may .0) (may .1))))), (λ made. absurd (false≢true made)))
+module _ {X : Type 0} (judged : Result X Refusal) (May : X → Type 0) (passes : (x : X) → judged ≡ Ok x → May x) (allowed : (x : X) → May x → judged ≡ Ok x) where
+  pub law-made : (x : X) → judged ≡ Ok x → ((x : X) × May x → true ≡ true) × (true ≡ true → (x : X) × May x)
+  law-made x e = ((λ _. refl), (λ _. (x, passes x e)))
+
+  pub law-refused : (why : Refusal) → judged ≡ Err why → ((x : X) × May x → false ≡ true) × (false ≡ true → (x : X) × May x)
+  law-refused why e =
+      ((λ may. absurd (err-is-ok why (may .0) (sym e ∙ allowed (may .0) (may .1)))), (λ made. absurd (false≢true made)))

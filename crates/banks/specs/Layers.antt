@@ -12,7 +12,7 @@ use Rattle.terms.specs.Halves.{halfSize}
 use Rattle.terms.specs.declared.refusal.Refusal.{Refusal}
 use Rattle.terms.specs.declared.refusal.Refusal.the-variants.{WrongShape, BadQuantity, ReachTooLarge}
 use Rattle.banks.specs.Meanings.{Meaning, capped, exactly, mostLines, mostReach}
-use Rattle.banks.specs.Outcomes.{unless, decided}
+use Rattle.banks.specs.Outcomes.{unless, decided, making}
 
 -- ---- a pair: two banks of equal half side by side
 
@@ -46,13 +46,21 @@ abbrev pub scaleOf : ℕ → Meaning → Meaning
 scaleOf factor m = record { half = m .half; lines = m .lines; reach = factor * m .reach; price = λ line point column. pos factor *ℤ m .price line point column }
 
 -- 9: a factor that is not 1 to 100; 7: a reach over the bound
+abbrev pub scaleJudged : ℤ → ℕ → Result ℕ Refusal
+scaleJudged factor reach = decided (unless (within (pos 1) (pos 100) factor) BadQuantity ∷ unless (leb (natAbs factor * reach) mostReach) ReachTooLarge ∷ []) (natAbs factor)
+
 abbrev pub scaleMade : ℤ → Meaning → Result Meaning Refusal
-scaleMade factor m = decided (unless (within (pos 1) (pos 100) factor) BadQuantity ∷ unless (leb (natAbs factor * m .reach) mostReach) ReachTooLarge ∷ []) (scaleOf (natAbs factor) m)
+scaleMade factor m = making (scaleJudged factor (m .reach)) (λ f. scaleOf f m)
+
+-- what makes a number the factor of a scale
+pub record Scales (factor : ℤ) (m : Meaning) (size : ℕ) : Type 0 where
+  pub sized : natAbs factor ≡ size
+  pub in-range : within (pos 1) (pos 100) factor ≡ true
+  pub small-reach : size * m .reach ≤ mostReach
 
 -- when a bank may be scaled
-pub record MayScale (factor : ℤ) (m : Meaning) : Type 0 where
-  pub in-range : within (pos 1) (pos 100) factor ≡ true
-  pub small-reach : natAbs factor * m .reach ≤ mostReach
+abbrev pub MayScale : ℤ → Meaning → Type 0
+MayScale factor m = (size : ℕ) × Scales factor m size
 
 -- any bank under any factor: the reach is cut at the bound, and a price beyond it reads as 0
 abbrev pub scaleMeaning : ℕ → Meaning → Meaning

@@ -2,7 +2,7 @@
 ghost use mathlib.Core.Path.{_≡_};
 ghost use Prim.Native.Nat.{_*_, _≤_};
 ghost use lib.IntN.{pos, natAbs, _*ℤ_};
-ghost use Rattle.banks.specs.Layers.{MayScale, scaleMade, scaleMeaning};
+ghost use Rattle.banks.specs.Layers.{MayScale, scaleJudged, scaleMade, scaleMeaning};
 ghost use Rattle.banks.specs.Outcomes.{told, MadeExactlyWhen};
 ghost use Rattle.banks.specs.Soundness.{scale-sound};
 use crate::bank::Bank;
@@ -47,15 +47,26 @@ impl<B: Bank + Drop> Scale<B> {
         ensures made { λ r. ⌜ told (λ s. scaleMeaning (s .factor) (B·Bank .meaning (s .bank))) r ≡ scaleMade factor (B·Bank .meaning bank) ⌝ }
         ensures law { λ r. ⌜ MadeExactlyWhen r (MayScale factor (B·Bank .meaning bank)) ⌝ }
     {
-        if !between(factor, 1, 100) {
-            return Err(Refusal::BadQuantity);
+        match judged(factor, bank.reach()) {
+            Err(why) => Err(why),
+            Ok(factor) => Ok(Scale { bank, factor }),
         }
-        let factor = factor as u8;
-        if times(factor, bank.reach()) > MOST_REACH {
-            return Err(Refusal::ReachTooLarge);
-        }
-        Ok(Scale { bank, factor })
     }
+}
+
+// The factor that a bank of such a reach may be scaled by, or the first refusal.
+fn judged(factor: i64, reach: u64) -> Result<u8, Refusal>
+    requires { ⌜ reach ≤ 2000000000000 ⌝ }
+    ensures { λ r. ⌜ r ≡ scaleJudged factor reach ⌝ }
+{
+    if !between(factor, 1, 100) {
+        return Err(Refusal::BadQuantity);
+    }
+    let factor = factor as u8;
+    if times(factor, reach) > MOST_REACH {
+        return Err(Refusal::ReachTooLarge);
+    }
+    Ok(factor)
 }
 
 // A reach times a factor.

@@ -1,28 +1,36 @@
-use mathlib.Core.Path.{_≡_, refl, sym, ap, _∙_}
-use mathlib.Core.Bool.{true}
-use native.Mathlib.Omega.{arith}
-use borrow.Author.Needs.{needs}
-use Prim.Native.Nat.{_*_, _≤_}
-use lib.IntN.{pos, natAbs}
+use mathlib.Core.Path.{_≡_, sym, ap, _∙_}
+use Prim.Native.Nat.{ℕ}
+use lib.IntN.{ℤ}
 use mir.Syntax.{w64}
-use mir.Val.{toZ, ofZ}
+use mir.Val.{SFits, toZ, ofZ}
 use Rattle.std.proofs.shelf.Signed.{toZ-ofZ}
-use Rattle.std.specs.declared.result.Result.the-variants.{Ok}
-use Rattle.terms.specs.Cards.{within}
-use Rattle.banks.specs.Layers.{scaleMeaning}
-use Rattle.banks.specs.Meanings.{mostReach}
-use Rattle.banks.proofs.Made.{scale-made}
+use Rattle.std.specs.declared.result.Result.{Result}
+use Rattle.std.specs.declared.result.Result.the-variants.{Ok, Err}
+use Rattle.terms.specs.declared.refusal.Refusal.{Refusal}
+use Rattle.banks.specs.Layers.{scaleJudged, scaleOf, Scales}
+use Rattle.banks.specs.Outcomes.{making}
+use Rattle.banks.proofs.Judged.{law-made, law-refused}
+use Rattle.banks.proofs.Scaled.{scale-passed, scale-allowed, scale-made}
 use Rattle.banks.proofs.scale.Scale.new.Needs as need
 
-pub returns : need.returns
-returns g c =
+-- how the factor was judged, whichever way it was passed on
+judged-as : (factor : ℤ) (reach reach′ : ℕ) (r j : Result ℕ Refusal) → SFits w64 factor → r ≡ scaleJudged (toZ w64 (ofZ w64 factor)) reach′ → reach′ ≡ reach → r ≡ j → scaleJudged factor reach ≡ j
+judged-as factor reach reach′ r j whole e same is = simp (toZ-ofZ w64 factor whole) at (ap (scaleJudged (toZ w64 (ofZ w64 factor))) (sym same) ∙ sym e ∙ is)
+
+pub returns-in-Err : need.returns-in-Err
+returns-in-Err g c =
     let m = g .B·Bank .meaning (c .args .bank) in
-    let factor = c .args .factor in
-    let kept : toZ w64 (ofZ w64 factor) ≡ factor = toZ-ofZ w64 factor (c .fits .factor) in
-    let in-range : within (pos 1) (pos 100) factor ≡ true = simp kept at (sym (c .between .ensures) ∙ c .if-not-between .left) in
-    let grown : c .times .result ≡ natAbs factor * m .reach = c .times .ensures ∙ ap (λ f. natAbs f * c .reach .result) kept ∙ ap (λ n. natAbs factor * n) (c .reach .ensures .value) in
-    let fits : natAbs factor * m .reach ≤ mostReach = omega (arith, grown) in
+    let judged = judged-as (c .args .factor) (m .reach) _ _ _ (c .fits .factor) (c .judged .ensures) (c .reach .ensures .value) (c .in-Err .is) in
     record {
-      made = rw kept (scale-made factor m (g .B·Bank .sound (c .args .bank)) in-range fits);
-      law = ((λ _. refl), (λ _. record { in-range = in-range; small-reach = fits }));
+      made = sym (ap (λ j. making j (λ f. scaleOf f m)) judged);
+      law = law-refused _ (Scales (c .args .factor) m) (scale-passed (c .args .factor) m) (scale-allowed (c .args .factor) m) (c .in-Err .why) judged;
+    }
+
+pub returns-in-Ok : need.returns-in-Ok
+returns-in-Ok g c =
+    let m = g .B·Bank .meaning (c .args .bank) in
+    let judged = judged-as (c .args .factor) (m .reach) _ _ _ (c .fits .factor) (c .judged .ensures) (c .reach .ensures .value) (c .in-Ok .is) in
+    record {
+      made = scale-made (c .args .factor) m (g .B·Bank .sound (c .args .bank)) (c .in-Ok .factor) judged;
+      law = law-made _ (Scales (c .args .factor) m) (scale-passed (c .args .factor) m) (scale-allowed (c .args .factor) m) (c .in-Ok .factor) judged;
     }

@@ -10,11 +10,9 @@ use Rattle.std.specs.declared.result.Result.the-variants.{Ok, Err}
 use Rattle.terms.specs.declared.cards.Line.{Line}
 use Rattle.terms.specs.declared.half.Half.{Half}
 use Rattle.terms.specs.declared.refusal.Refusal.{Refusal}
-use Rattle.banks.specs.Outcomes.{making, told}
-use Rattle.banks.specs.Strips.{stripOf, stripJudged, stripMade, MayStrip, Strips, stripMeaning}
-use Rattle.banks.specs.Outcomes.{MadeExactlyWhen}
-use Rattle.banks.specs.declared.strip.Strip.{Strip}
-use Rattle.banks.proofs.Judged.{made-law}
+use Rattle.banks.specs.Outcomes.{making}
+use Rattle.banks.specs.Strips.{stripOf, stripJudged, Strips, stripMeaning}
+use Rattle.banks.proofs.Judged.{law-made, law-refused}
 use Rattle.banks.proofs.Stripped.{strip-passed, strip-allowed, strip-made}
 use Rattle.banks.proofs.strip.Strip.new.Needs as need
 
@@ -22,17 +20,15 @@ use Rattle.banks.proofs.strip.Strip.new.Needs as need
 judged-as : (half : ℤ) (cards : List Line) (r j : Result Half Refusal) → SFits w64 half → r ≡ stripJudged (toZ w64 (ofZ w64 half)) cards → r ≡ j → stripJudged half cards ≡ j
 judged-as half cards r j whole e is = simp (toZ-ofZ w64 half whole) at (sym e ∙ is)
 
-law : (half : ℤ) (cards : List Line) (r : Result Strip Refusal) → told stripMeaning r ≡ stripMade half cards → MadeExactlyWhen r (MayStrip half cards)
-law half cards =
-    made-law stripMeaning (stripJudged half cards) _ (Strips half cards) (strip-passed half cards) (strip-allowed half cards)
-
 pub returns-in-Err : need.returns-in-Err
 returns-in-Err c =
     let half = c .args .half in
     let cards = c .args .futures .now in
     let judged = judged-as half cards _ _ (c .fits .half) (c .judged .ensures) (c .in-Err .is) in
-    let made = sym (ap (λ j. making j (λ grid. stripOf grid cards)) judged) in
-    record { made = made; law = law half cards (Err (c .in-Err .why)) made }
+    record {
+      made = sym (ap (λ j. making j (λ grid. stripOf grid cards)) judged);
+      law = law-refused _ (Strips half cards) (strip-passed half cards) (strip-allowed half cards) (c .in-Err .why) judged;
+    }
 
 pub widest-requires : need.widest-requires
 widest-requires c κs =
@@ -48,8 +44,8 @@ returns-in-Ok c =
     let half = c .args .half in
     let cards = c .args .futures .now in
     let judged = judged-as half cards _ _ (c .fits .half) (c .judged .ensures) (c .in-Ok .is) in
-    let strip : Strip = record { half = c .in-Ok .half; count = length cards; reach = c .widest .result; quotes = c .quotes .result } in
-    let made : Ok (stripMeaning strip) ≡ stripMade half cards =
-      ap (λ reach. Ok (stripMeaning (record { half = c .in-Ok .half; count = length cards; reach = reach; quotes = c .quotes .result }))) (c .widest .ensures)
-      ∙ strip-made half cards (c .in-Ok .half) judged (c .quotes .result) (c .quotes .ensures .each) in
-    record { made = made; law = law half cards (Ok strip) made }
+    record {
+      made = ap (λ reach. Ok (stripMeaning (record { half = c .in-Ok .half; count = length cards; reach = reach; quotes = c .quotes .result }))) (c .widest .ensures)
+          ∙ strip-made half cards (c .in-Ok .half) judged (c .quotes .result) (c .quotes .ensures .each);
+      law = law-made _ (Strips half cards) (strip-passed half cards) (strip-allowed half cards) (c .in-Ok .half) judged;
+    }

@@ -5,8 +5,8 @@ use mir.Val.{toZ, ofZ}
 use Rattle.std.proofs.shelf.Signed.{toZ-ofZ}
 use Rattle.std.specs.declared.result.Result.the-variants.{Ok, Err}
 use Rattle.banks.specs.Outcomes.{making}
-use Rattle.banks.specs.Tables.{tableOf, tableJudged, Tabulates, tableMeaning}
-use Rattle.banks.proofs.Judged.{made-law}
+use Rattle.banks.specs.Tables.{tableOf, tableJudged, Tabulates}
+use Rattle.banks.proofs.Judged.{law-made, law-refused}
 use Rattle.banks.proofs.Tabled.{table-passed, table-allowed, table-made}
 use Rattle.banks.proofs.table.Table.new.Needs as need
 
@@ -16,8 +16,10 @@ returns-in-Err c =
     let lines = c .args .lines in
     let list = c .args .entries .now in
     let judged : tableJudged half lines list ≡ Err (c .in-Err .why) = simp (toZ-ofZ w64 half (c .fits .half), toZ-ofZ w64 lines (c .fits .lines)) at (sym (c .judged .ensures) ∙ c .in-Err .is) in
-    let made = sym (ap (λ j. making j (λ grid. tableOf grid (natAbs lines) list)) judged) in
-    record { made = made; law = made-law tableMeaning (tableJudged half lines list) _ (Tabulates half lines list) (table-passed half lines list) (table-allowed half lines list) (Err (c .in-Err .why)) made }
+    record {
+      made = sym (ap (λ j. making j (λ grid. tableOf grid (natAbs lines) list)) judged);
+      law = law-refused _ (Tabulates half lines list) (table-passed half lines list) (table-allowed half lines list) (c .in-Err .why) judged;
+    }
 
 pub returns-in-Ok : need.returns-in-Ok
 returns-in-Ok c =
@@ -28,5 +30,5 @@ returns-in-Ok c =
     let judged : tableJudged half lines list ≡ Ok (c .in-Ok .half) = simp (toZ-ofZ w64 half (c .fits .half), kept) at (sym (c .judged .ensures) ∙ c .in-Ok .is) in
     record {
       made = simp kept (table-made half lines list (c .in-Ok .half) judged);
-      law = made-law tableMeaning (tableJudged half lines list) _ (Tabulates half lines list) (table-passed half lines list) (table-allowed half lines list) (Ok (record { half = c .in-Ok .half; count = natAbs lines; entries = c .args .entries })) (table-made half lines list (c .in-Ok .half) judged);
+      law = law-made _ (Tabulates half lines list) (table-passed half lines list) (table-allowed half lines list) (c .in-Ok .half) judged;
     }
