@@ -1,7 +1,6 @@
 pub mod Bounded
 pub mod Fields
-pub mod Judged
-pub mod Places
+pub mod Halved
 pub mod Products
 pub mod Scaled
 pub mod Stripped

@@ -14,7 +14,7 @@ use Rattle.banks.specs.Meanings.{Meaning, Sound, capped, mostReach}
 use Rattle.banks.specs.Outcomes.{making}
 use Rattle.banks.specs.Layers.{scaleMeaning, scaleOf, scaleJudged, scaleMade, Scales}
 use Rattle.banks.specs.Soundness.{cap-keeps, scaled-size}
-use Rattle.banks.proofs.Judged.{pass-unless, passed-unless}
+use Rattle.terms.proofs.Passed.{pass-unless, passed-unless}
 
 module _ (factor : ℕ) (m : Meaning) (sm : Sound m) (fits : factor * m .reach ≤ mostReach) where
   scaled : ℕ → (ℕ → ℕ → ℕ → ℤ) → Meaning

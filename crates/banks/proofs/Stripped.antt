@@ -16,6 +16,7 @@ use Rattle.std.specs.declared.option.Option.the-variants.{Some, None}
 use Rattle.std.specs.declared.result.Result.{Result}
 use Rattle.std.specs.declared.result.Result.the-variants.{Ok, Err}
 use Rattle.terms.specs.Cards.{within, futureFits}
+use Rattle.terms.specs.Judging.{failing}
 use Rattle.terms.specs.Halves.{halfOf, halfSize, stepsOf, points}
 use Rattle.terms.specs.declared.cards.Line.{Line}
 use Rattle.terms.specs.declared.half.Half.{Half}
@@ -23,15 +24,17 @@ use Rattle.terms.specs.declared.half.Half.the-variants.{One, Two, Four, Eight}
 use Rattle.terms.specs.declared.refusal.Refusal.{Refusal}
 use Rattle.terms.specs.declared.refusal.Refusal.the-variants.{BadCard, WrongShape}
 use Rattle.banks.specs.Meanings.{Meaning, mostReach}
-use Rattle.banks.specs.Outcomes.{unless, failing, decided, onHalf, making}
+use Rattle.terms.specs.Checks.{unless, decided}
+use Rattle.banks.specs.Outcomes.{onHalf, making}
 use Rattle.banks.specs.Soundness.{size-product, size-neg}
 use Rattle.banks.specs.Strips.{quoteOf, quoted, quoteReach, stripReach, noLine, carded, stripOf, stripJudged, stripMade, noQuote, stripMeaning, Strips}
 use Rattle.banks.specs.declared.strip.Quote.{Quote}
 use Rattle.banks.specs.declared.strip.Strip.{Strip}
 use Rattle.banks.proofs.Bounded.{bounded-is, grid-same}
 use Rattle.banks.proofs.Fields.{sizes, quote-sizes}
-use Rattle.banks.proofs.Judged.{pass-unless, pass-places, passed-half, passed-unless, passed-places}
-use Rattle.banks.proofs.Places.{all-pass, none-fails, some-is-none}
+use Rattle.terms.proofs.Passed.{pass-unless, pass-places, passed-unless, passed-places}
+use Rattle.banks.proofs.Halved.{passed-half}
+use Rattle.terms.proofs.Places.{all-pass, none-fails, some-is-none}
 
 -- ---- sizes
 

@@ -16,17 +16,20 @@ use Rattle.std.specs.declared.option.Option.the-variants.{Some, None}
 use Rattle.std.specs.declared.result.Result.{Result}
 use Rattle.std.specs.declared.result.Result.the-variants.{Ok, Err}
 use Rattle.terms.specs.Cards.{within}
+use Rattle.terms.specs.Judging.{failing}
 use Rattle.terms.specs.Halves.{halfOf, points}
 use Rattle.terms.specs.declared.half.Half.{Half}
 use Rattle.terms.specs.declared.refusal.Refusal.{Refusal}
 use Rattle.terms.specs.declared.refusal.Refusal.the-variants.{OutsideField, WrongLength, WrongShape}
 use Rattle.banks.specs.Meanings.{Meaning, columns, grains, bounded}
-use Rattle.banks.specs.Outcomes.{unless, failing, decided, onHalf, making}
+use Rattle.terms.specs.Checks.{unless, decided}
+use Rattle.banks.specs.Outcomes.{onHalf, making}
 use Rattle.banks.specs.Soundness.{size-product}
 use Rattle.banks.specs.Tables.{mostEntry, entryAt, entries, fitsAt, listed, tableOf, tableChecks, tableJudged, tableMade, Tabulates}
 use Rattle.banks.proofs.Bounded.{bounded-is}
-use Rattle.banks.proofs.Judged.{pass-unless, pass-places, passed-half, passed-unless, passed-places}
-use Rattle.banks.proofs.Places.{all-pass, none-fails}
+use Rattle.terms.proofs.Passed.{pass-unless, pass-places, passed-unless, passed-places}
+use Rattle.banks.proofs.Halved.{passed-half}
+use Rattle.terms.proofs.Places.{all-pass, none-fails}
 
 -- ---- ranges as facts
 

@@ -12,7 +12,8 @@ use Rattle.terms.specs.Halves.{halfSize}
 use Rattle.terms.specs.declared.refusal.Refusal.{Refusal}
 use Rattle.terms.specs.declared.refusal.Refusal.the-variants.{WrongShape, BadQuantity, ReachTooLarge}
 use Rattle.banks.specs.Meanings.{Meaning, capped, exactly, mostLines, mostReach}
-use Rattle.banks.specs.Outcomes.{unless, decided, making}
+use Rattle.terms.specs.Checks.{unless, decided}
+use Rattle.banks.specs.Outcomes.{making}
 
 -- ---- a pair: two banks of equal half side by side
 

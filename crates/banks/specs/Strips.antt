@@ -11,13 +11,15 @@ use Rattle.std.specs.declared.option.Option.{Option}
 use Rattle.std.specs.declared.option.Option.the-variants.{Some}
 use Rattle.std.specs.declared.result.Result.{Result}
 use Rattle.terms.specs.Cards.{within, futureFits}
+use Rattle.terms.specs.Judging.{failing}
 use Rattle.terms.specs.Halves.{halfOf, halfSize, stepsOf}
 use Rattle.terms.specs.declared.cards.Line.{Line}
 use Rattle.terms.specs.declared.half.Half.{Half}
 use Rattle.terms.specs.declared.refusal.Refusal.{Refusal}
 use Rattle.terms.specs.declared.refusal.Refusal.the-variants.{BadCard, WrongShape}
 use Rattle.banks.specs.Meanings.{Meaning, grains, exactly, bounded}
-use Rattle.banks.specs.Outcomes.{unless, failing, refusedAt, before, decided, onHalf, making}
+use Rattle.terms.specs.Checks.{unless, refusedAt, before, decided}
+use Rattle.banks.specs.Outcomes.{onHalf, making}
 use Rattle.banks.specs.declared.strip.Quote.{Quote}
 use Rattle.banks.specs.declared.strip.Strip.{Strip}
 

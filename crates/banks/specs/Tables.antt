@@ -11,12 +11,14 @@ use Rattle.std.specs.declared.option.Option.{Option}
 use Rattle.std.specs.declared.option.Option.the-variants.{Some}
 use Rattle.std.specs.declared.result.Result.{Result}
 use Rattle.terms.specs.Cards.{within}
+use Rattle.terms.specs.Judging.{failing}
 use Rattle.terms.specs.Halves.{halfOf, points}
 use Rattle.terms.specs.declared.half.Half.{Half}
 use Rattle.terms.specs.declared.refusal.Refusal.{Refusal}
 use Rattle.terms.specs.declared.refusal.Refusal.the-variants.{OutsideField, WrongLength, WrongShape}
 use Rattle.banks.specs.Meanings.{Meaning, grains, columns, exactly, bounded}
-use Rattle.banks.specs.Outcomes.{unless, failing, refusedAt, decided, onHalf, making}
+use Rattle.terms.specs.Checks.{unless, refusedAt, decided}
+use Rattle.banks.specs.Outcomes.{onHalf, making}
 use Rattle.banks.specs.declared.table.Table.{Table}
 
 -- the largest entry, in kopecks

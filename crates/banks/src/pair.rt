@@ -1,7 +1,8 @@
 // A pair: two banks of equal half side by side, the first bank's lines first.
 ghost use mathlib.Core.Path.{_≡_};
 ghost use Rattle.banks.specs.Layers.{MayPair, pairMade, pairMeaning};
-ghost use Rattle.banks.specs.Outcomes.{told, MadeExactlyWhen};
+ghost use Rattle.terms.specs.Checks.{MadeExactlyWhen};
+ghost use Rattle.banks.specs.Outcomes.{told};
 ghost use Rattle.banks.specs.Soundness.{pair-sound};
 use crate::bank::Bank;
 use crate::size::COLUMNS;

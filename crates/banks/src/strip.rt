@@ -5,7 +5,8 @@ ghost use mathlib.Core.Bool.{true};
 ghost use Prim.Native.Nat.{ℕ, _*_, _≤_, _<_};
 ghost use lib.IntN.{pos, negℤ, natAbs, _+ℤ_, _-ℤ_, _*ℤ_};
 ghost use lib.ListN.{length, getD};
-ghost use Rattle.banks.specs.Outcomes.{failing, told, MadeExactlyWhen};
+ghost use Rattle.terms.specs.Checks.{MadeExactlyWhen};
+ghost use Rattle.banks.specs.Outcomes.{told};
 ghost use Rattle.banks.specs.Soundness.{bounded-sound};
 ghost use Rattle.banks.specs.Strips.{quoteOf, quoted, quoteReach, stripReach, noLine, noQuote, stripJudged, stripMade, stripMeaning, MayStrip};
 ghost use Rattle.terms.specs.Cards.{futureFits};
@@ -17,6 +18,8 @@ use crate::size::MOST_REACH;
 use crate::size::capped;
 use terms::cards::Line;
 use terms::half::Half;
+use terms::judge::Judge;
+use terms::judge::first_failing;
 use terms::refusal::Refusal;
 
 const GRAINS: u64 = 80_000;
@@ -87,7 +90,7 @@ impl Strip {
 fn judged(half: i64, futures: &[Line]) -> Result<Half, Refusal>
     ensures { λ r. ⌜ r ≡ stripJudged half (now (futures .entry)) ⌝ }
 {
-    if let Some(card) = first_unfit(futures) {
+    if let Some(card) = first_failing(&Futures, futures) {
         return Err(Refusal::BadCard(card));
     }
     let Some(grid) = Half::of(half) else {
@@ -99,16 +102,16 @@ fn judged(half: i64, futures: &[Line]) -> Result<Half, Refusal>
     Ok(grid)
 }
 
-// The place of the first card that fits no future, if there is one.
-fn first_unfit(futures: &[Line]) -> Option<usize>
-    ensures { λ r. ⌜ r ≡ failing (λ _. futureFits) 0 (now (futures .entry)) ⌝ }
-{
-    for (k, card) in futures.iter().enumerate() {
-        if !card.fits_a_future() {
-            return Some(k);
-        }
+// Judges the cards of futures.
+#[derive(Drop)]
+struct Futures;
+
+impl Judge<Line> for Futures as FuturesJudge {
+    ghost admits = { λ _ _. futureFits };
+
+    fn passes(&self, _place: usize, card: &Line) -> bool {
+        card.fits_a_future()
     }
-    None
 }
 
 // The greatest size that a price or a change of these futures can have.

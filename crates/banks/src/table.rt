@@ -5,7 +5,8 @@ ghost use denote.Ref.{now};
 ghost use lib.IntN.{pos, _*ℤ_};
 ghost use lib.ListN.{getD};
 ghost use Rattle.banks.specs.Meanings.{grains};
-ghost use Rattle.banks.specs.Outcomes.{failing, told, MadeExactlyWhen};
+ghost use Rattle.terms.specs.Checks.{MadeExactlyWhen};
+ghost use Rattle.banks.specs.Outcomes.{told};
 ghost use Rattle.banks.specs.Soundness.{bounded-sound};
 ghost use Rattle.banks.specs.Tables.{mostEntry, listed, entryAt, entries as entryCount, fitsAt, tableJudged, tableMade, tableMeaning, MayTabulate};
 use crate::bank::Bank;
@@ -14,6 +15,8 @@ use crate::size::MOST_LINES;
 use crate::size::capped;
 use terms::cards::between;
 use terms::half::Half;
+use terms::judge::Judge;
+use terms::judge::first_failing;
 use terms::refusal::Refusal;
 
 // the columns that hold prices, before those that hold changes of a price
@@ -106,7 +109,7 @@ fn judged(half: i64, lines: i64, entries: &[i64]) -> Result<Half, Refusal>
     if entries.len() != wanted {
         return Err(Refusal::WrongLength(wanted));
     }
-    match first_bad(grid, entries) {
+    match first_failing(&Entries { half: grid }, entries) {
         Some(place) => Err(Refusal::OutsideField(place)),
         None => Ok(grid),
     }
@@ -128,16 +131,18 @@ fn place(half: Half, line: usize, point: usize, column: usize) -> usize
     (line * COLUMNS + column) * half.points() + point
 }
 
-// The place of the first entry outside its field, if there is one.
-fn first_bad(half: Half, entries: &[i64]) -> Option<usize>
-    ensures { λ r. ⌜ r ≡ failing (fitsAt half) 0 (now (entries .entry)) ⌝ }
-{
-    for (k, entry) in entries.iter().enumerate() {
-        if !fits(half, k, *entry) {
-            return Some(k);
-        }
+// Judges the entries of a table on a grid.
+#[derive(Drop)]
+struct Entries {
+    half: Half,
+}
+
+impl Judge<i64> for Entries as EntriesJudge {
+    ghost admits = { λ e. fitsAt (e .half) };
+
+    fn passes(&self, place: usize, entry: &i64) -> bool {
+        fits(self.half, place, *entry)
     }
-    None
 }
 
 // Whether the entry at a place lies in its field: a price is never below 0.

@@ -1,3 +1,5 @@
 pub mod Cards
+pub mod Checks
 pub mod Halves
+pub mod Judging
 pub mod Refusals

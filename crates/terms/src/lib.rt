@@ -1,4 +1,5 @@
 // The terms that every layer of the engine shares: the half of a scenario grid, and the refusals.
 pub mod cards;
 pub mod half;
+pub mod judge;
 pub mod refusal;

@@ -9,7 +9,7 @@ use Rattle.std.specs.declared.result.Result.the-variants.{Ok, Err}
 use Rattle.terms.specs.declared.refusal.Refusal.{Refusal}
 use Rattle.banks.specs.Layers.{scaleJudged, scaleOf, Scales}
 use Rattle.banks.specs.Outcomes.{making}
-use Rattle.banks.proofs.Judged.{law-made, law-refused}
+use Rattle.terms.proofs.Passed.{law-made, law-refused}
 use Rattle.banks.proofs.Scaled.{scale-passed, scale-allowed, scale-made}
 use Rattle.banks.proofs.scale.Scale.new.Needs as need
 

@@ -12,7 +12,7 @@ use Rattle.terms.specs.declared.half.Half.{Half}
 use Rattle.terms.specs.declared.refusal.Refusal.{Refusal}
 use Rattle.banks.specs.Outcomes.{making}
 use Rattle.banks.specs.Strips.{stripOf, stripJudged, Strips, stripMeaning}
-use Rattle.banks.proofs.Judged.{law-made, law-refused}
+use Rattle.terms.proofs.Passed.{law-made, law-refused}
 use Rattle.banks.proofs.Stripped.{strip-passed, strip-allowed, strip-made}
 use Rattle.banks.proofs.strip.Strip.new.Needs as need
 

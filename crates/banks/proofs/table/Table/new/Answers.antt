@@ -6,7 +6,7 @@ use Rattle.std.proofs.shelf.Signed.{toZ-ofZ}
 use Rattle.std.specs.declared.result.Result.the-variants.{Ok, Err}
 use Rattle.banks.specs.Outcomes.{making}
 use Rattle.banks.specs.Tables.{tableOf, tableJudged, Tabulates}
-use Rattle.banks.proofs.Judged.{law-made, law-refused}
+use Rattle.terms.proofs.Passed.{law-made, law-refused}
 use Rattle.banks.proofs.Tabled.{table-passed, table-allowed, table-made}
 use Rattle.banks.proofs.table.Table.new.Needs as need
 

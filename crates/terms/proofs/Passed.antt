@@ -1,4 +1,4 @@
--- A bank is made exactly when its checks pass.
+-- What lets checks pass, what passed, and the law of what is made where all pass.
 use mathlib.Core.Path.{_≡_, refl, sym, ap, _∙_}
 use mathlib.Core.Bool.{Bool, true, false}
 use Prim.Native.Nat.{ℕ}
@@ -8,9 +8,8 @@ use Rattle.std.specs.declared.option.Option.{Option}
 use Rattle.std.specs.declared.option.Option.the-variants.{Some, None}
 use Rattle.std.specs.declared.result.Result.{Result}
 use Rattle.std.specs.declared.result.Result.the-variants.{Ok, Err}
-use Rattle.terms.specs.declared.half.Half.{Half}
 use Rattle.terms.specs.declared.refusal.Refusal.{Refusal}
-use Rattle.banks.specs.Outcomes.{unless, refusedAt, before, onHalf}
+use Rattle.terms.specs.Checks.{unless, refusedAt, before}
 
 pub err-is-ok : {X : Type 0} (why : Refusal) (x : X) → _≡_ {A = Result X Refusal} (Err why) (Ok x) → ⊥
 err-is-ok why x e = let z : _≡_ {A = ℕ} 0 1 = cc in omega arith
@@ -35,11 +34,6 @@ passed-unless false why rest x e = absurd (err-is-ok why x e)
 pub passed-places : {X : Type 0} (place : Option ℕ) (why : ℕ → Refusal) (rest : Result X Refusal) (x : X) → before (refusedAt why place) rest ≡ Ok x → (place ≡ None) × (rest ≡ Ok x)
 passed-places None why rest x e = (refl, e)
 passed-places (Some k) why rest x e = absurd (err-is-ok (why k) x e)
-
--- a half that a grid has
-pub passed-half : {X : Type 0} (half : Option Half) (checks : Half → Result X Refusal) (x : X) → onHalf half checks ≡ Ok x → (grid : Half) × (half ≡ Some grid) × (checks grid ≡ Ok x)
-passed-half None checks x e = absurd (err-is-ok _ x e)
-passed-half (Some grid) checks x e = (grid, refl, e)
 
 -- ---- the law of a constructor: its checks pass exactly when it may make something
 

@@ -12,7 +12,7 @@ use Rattle.std.proofs.shelf.Lists.{drop-all}
 use Rattle.std.proofs.shelf.Tests.{false≢true}
 use Rattle.std.specs.declared.option.Option.{Option}
 use Rattle.std.specs.declared.option.Option.the-variants.{Some, None}
-use Rattle.banks.specs.Outcomes.{failing}
+use Rattle.terms.specs.Judging.{failing}
 
 module _ {X : Type 0} (test : ℕ → X → Bool) (xs : List X) (i : ℕ) where
   at-place : (d : X) → i < length xs → failing test i (drop i xs) ≡ elim (test i (getD xs i d)) [ true ↦ failing test (suc i) (drop (suc i) xs) | false ↦ Some i ]
