@@ -1,0 +1,5 @@
+pub mod Sums
+pub mod Book
+pub mod Cells
+pub mod Layers
+pub mod Figures
