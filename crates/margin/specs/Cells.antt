@@ -45,8 +45,8 @@ module _ (book : Book) where
   unfoldable pub shortReach : ℕ → ℤ
   shortReach l = maxZ (pos 0) (sells l -ℤ position book l .net)
 
--- last is the grid's last point; price is the price of a line at a point and column
-module _ (last : ℕ) (price : ℕ → ℕ → ℕ → ℤ) (cards : Cards) (book : Book) where
+-- last is the grid's last point
+module _ (last : ℕ) (cards : Cards) (book : Book) where
   -- the long charge is taken off at the first point, where prices are lowest, and the short charge at the last
   unfoldable pub chargesAt : ℕ → ℕ → ℤ
   chargesAt l point =
@@ -56,11 +56,13 @@ module _ (last : ℕ) (price : ℕ → ℕ → ℕ → ℤ) (cards : Cards) (boo
   unfoldable pub charged : ℕ → ℕ → ℕ → ℤ
   charged l point column = elim (isFuture cards l) [ true ↦ elim (holdsPrice column) [ true ↦ chargesAt l point | false ↦ pos 0 ] | false ↦ pos 0 ]
 
+-- price is the price of a line at a point and column
+module _ (last : ℕ) (price : ℕ → ℕ → ℕ → ℤ) (cards : Cards) (book : Book) where
   -- what a line adds to its month's cell: its position less charges, and its open orders, of which `counts` says what each adds, by its number and its result
   unfoldable pub lineCell : (ℕ → ℤ → ℤ) → ℕ → ℕ → ℕ → ℤ
   lineCell counts l point column =
       let here = price l point column in
-      positionResult (position book l) here column -ℤ charged l point column
+      positionResult (position book l) here column -ℤ charged last cards book l point column
       +ℤ overOrders book l (λ i. counts i (orderResult (order book i) here column))
 
   -- a month's cell adds up its lines

@@ -18,8 +18,15 @@ lossOf (negsuc n) = suc n
 unfoldable pub costlier : ℕ × ℕ → ℕ × ℕ → Bool
 costlier x y = ltb (y .0) (x .0) || (eqb (x .0) (y .0) && ltb (x .1) (y .1))
 
-module _ (last : ℕ) (cards : Cards) (cells : ℕ → ℕ → ℕ → ℤ) where
-  -- ---- a month at a point
+-- the points of the grid that lie within w points of p begin at the one and end at the other
+abbrev pub windowStart : ℕ → ℕ → ℕ
+windowStart w p = p - w
+
+abbrev pub windowEnd : ℕ → ℕ → ℕ → ℕ
+windowEnd last w p = min (p + w) last
+
+-- ---- a month at a point
+module _ (cells : ℕ → ℕ → ℕ → ℤ) where
   -- the least of the volatility columns, with the lowest column that has it
   unfoldable pub volatilityResult : ℕ → ℕ → ℤ × ℕ
   volatilityResult m p = least3 (cells m p 0) (cells m p 1) (cells m p 2)
@@ -38,38 +45,33 @@ module _ (last : ℕ) (cards : Cards) (cells : ℕ → ℕ → ℕ → ℤ) wher
   unfoldable pub monthResult : ℕ → ℕ → ℤ
   monthResult m p = volatilityResult m p .0 +ℤ curveResult m p
 
-  -- ---- a basket at a point
+-- ---- a basket at a point
+module _ (cards : Cards) (cells : ℕ → ℕ → ℕ → ℤ) where
   -- a netted basket's volatility columns, each added up over its months: the least, with the lowest column that has it
   unfoldable pub nettedColumn : ℕ → ℕ → ℤ × ℕ
   nettedColumn b p =
       least3 (overMonths cards b (λ m. cells m p 0)) (overMonths cards b (λ m. cells m p 1)) (overMonths cards b (λ m. cells m p 2))
 
   unfoldable pub nettedBasketResult : ℕ → ℕ → ℤ
-  nettedBasketResult b p = nettedColumn b p .0 +ℤ overMonths cards b (λ m. curveResult m p)
+  nettedBasketResult b p = nettedColumn b p .0 +ℤ overMonths cards b (λ m. curveResult cells m p)
 
   unfoldable pub halfBasketResult : ℕ → ℕ → ℤ
-  halfBasketResult b p = overMonths cards b (λ m. minZ (pos 0) (monthResult m p))
+  halfBasketResult b p = overMonths cards b (λ m. minZ (pos 0) (monthResult cells m p))
 
   unfoldable pub basketResult : ℕ → ℕ → ℤ
   basketResult b p = elim (nettedBasket cards b) [ true ↦ nettedBasketResult b p | false ↦ halfBasketResult b p ]
 
-  -- ---- a family at a point
-  -- the points of the grid that lie within w points of p begin at one and end at the other
-  abbrev pub windowStart : ℕ → ℕ → ℕ
-  windowStart w p = p - w
-
-  abbrev pub windowEnd : ℕ → ℕ → ℕ
-  windowEnd w p = min (p + w) last
-
+-- ---- a family at a point
+module _ (last : ℕ) (cards : Cards) (cells : ℕ → ℕ → ℕ → ℤ) where
   -- the worst of a basket within w points of p, with its first point
   unfoldable pub worstWithin : ℕ → ℕ → ℕ → ℤ × ℕ
-  worstWithin w b p = least ltZ (basketResult b) (windowStart w p) (windowEnd w p - windowStart w p)
+  worstWithin w b p = least ltZ (basketResult cards cells b) (windowStart w p) (windowEnd last w p - windowStart w p)
 
   unfoldable pub nettedFamilyResult : ℕ → ℕ → ℤ
   nettedFamilyResult f p = overBaskets cards f (λ b. worstWithin (windowOf cards f) b p .0)
 
   unfoldable pub halfFamilyResult : ℕ → ℕ → ℤ
-  halfFamilyResult f p = overBaskets cards f (λ b. minZ (pos 0) (basketResult b p))
+  halfFamilyResult f p = overBaskets cards f (λ b. minZ (pos 0) (basketResult cards cells b p))
 
   unfoldable pub familyResult : ℕ → ℕ → ℤ
   familyResult f p = elim (nettedFamily cards f) [ true ↦ nettedFamilyResult f p | false ↦ halfFamilyResult f p ]

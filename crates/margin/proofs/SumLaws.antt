@@ -1,0 +1,73 @@
+-- The laws of `total`, of `least` and of `least3`. Assumes nothing.
+use Prim.Native.Nat.{ℕ, zero, suc, _+_, _≤_, _<_}
+use mathlib.Core.Path.{_≡_, refl, sym, ap, _∙_, subst}
+use mathlib.Core.Bool.{Bool, true, false}
+use mathlib.Core.Logic.{_⊎_, inl, inr}
+use native.Mathlib.Omega.{arith}
+use native.Mathlib.Decide.{decLe}
+use lib.IntN.{ℤ, pos, _+ℤ_}
+use lib.Signed.{ltZ, _≤ℤ_, _<ℤ_, ≤ℤ-refl}
+use Rattle.std.proofs.shelf.Signed.{ints, by-ltZ}
+use Rattle.margin.specs.Sums.{total, least, of3, least3}
+
+pub ≤ℤ-trans : (a b c : ℤ) → a ≤ℤ b → b ≤ℤ c → a ≤ℤ c
+≤ℤ-trans a b c h k = omega (arith, ints)
+
+pub sum-le : (a b c d : ℤ) → a ≤ℤ b → c ≤ℤ d → (a +ℤ c) ≤ℤ (b +ℤ d)
+sum-le a b c d h k = omega (arith, ints)
+
+pub under : (a b : ℤ) → ltZ a b ≡ true → a ≤ℤ b
+under a b e = omega (arith, ints)
+
+pub not-under : (a b : ℤ) → ltZ a b ≡ false → b ≤ℤ a
+not-under a b e = omega (arith, ints)
+
+-- ---- sums
+-- a sum does not fall where none of its parts does
+pub total-le : (n : ℕ) (test : ℕ → Bool) (f g : ℕ → ℤ) → ((i : ℕ) → i < n → test i ≡ true → f i ≤ℤ g i) → total n test f ≤ℤ total n test g
+unfolding total
+total-le zero test f g h = ≤ℤ-refl (pos 0)
+total-le (suc n) test f g h = sum-le _ _ _ _ (total-le n test f g (λ i less. h i (omega arith))) (here (test n) refl)
+  where
+    here : (b : Bool) → test n ≡ b → (elim b [ true ↦ f n | false ↦ pos 0 ]) ≤ℤ (elim b [ true ↦ g n | false ↦ pos 0 ])
+    here true e = h n (omega arith) e
+    here false e = ≤ℤ-refl (pos 0)
+
+pub total-add : (n : ℕ) (test : ℕ → Bool) (f g : ℕ → ℤ) → total n test (λ i. f i +ℤ g i) ≡ total n test f +ℤ total n test g
+unfolding total
+total-add zero test f g = refl
+total-add (suc n) test f g = let before = total-add n test f g in let now = here (test n) in omega (arith, ints)
+  where
+    here : (b : Bool) → (elim b [ true ↦ f n +ℤ g n | false ↦ pos 0 ]) ≡ (elim b [ true ↦ f n | false ↦ pos 0 ]) +ℤ (elim b [ true ↦ g n | false ↦ pos 0 ])
+    here true = refl
+    here false = refl
+
+-- ---- the least of a row
+-- what holds of the least of a row's items from a to a + n, and of its place
+pub record IsLeast (row : ℕ → ℤ) (a n : ℕ) (r : ℤ × ℕ) : Type 0 where
+  pub at : row (r .1) ≡ r .0
+  pub from : a ≤ r .1
+  pub to : r .1 ≤ a + n
+  pub none-less : (i : ℕ) → a ≤ i → i ≤ a + n → r .0 ≤ℤ row i
+
+module _ (row : ℕ → ℤ) (a : ℕ) where
+  at-one : (i : ℕ) → a ≤ i → i ≤ a + 0 → row a ≤ℤ row i
+  at-one i h k = let e : a ≡ i = omega arith in subst (λ (j : ℕ). row a ≤ℤ row j) e (≤ℤ-refl (row a))
+
+  -- an item of one more is the new one, or one of those before
+  one-more : (n i : ℕ) (P : ℕ → Type 0) → i ≤ a + suc n → (i ≤ a + n → P i) → P (a + suc n) → P i
+  one-more n i P h old new = elim (decLe i (a + n)) [ yes k ↦ old k | no k ↦ (let e : a + suc n ≡ i = omega arith in subst P e new) ]
+
+  pub least-is : (n : ℕ) → IsLeast row a n (least ltZ row a n)
+  unfolding least
+  least-is zero = record { at = refl; from = omega arith; to = omega arith; none-less = at-one }
+  least-is (suc n) = choose (least-is n) (ltZ (row (a + suc n)) (least ltZ row a n .0)) refl
+    where
+      choose : (old : IsLeast row a n (least ltZ row a n)) (b : Bool) → ltZ (row (a + suc n)) (least ltZ row a n .0) ≡ b → IsLeast row a (suc n) (elim b [ true ↦ (row (a + suc n), a + suc n) | false ↦ least ltZ row a n ])
+      choose old true e = record { at = refl; from = omega arith; to = omega arith; none-less = λ i h k. one-more n i (λ j. row (a + suc n) ≤ℤ row j) k (λ k′. ≤ℤ-trans _ _ _ (under _ _ e) (old .none-less i h k′)) (≤ℤ-refl _) }
+      choose old false e = record { at = old .at; from = old .from; to = omega arith; none-less = λ i h k. one-more n i (λ j. least ltZ row a n .0 ≤ℤ row j) k (λ k′. old .none-less i h k′) (not-under _ _ e) }
+
+-- ---- the least of three
+pub least3-is : (a b c : ℤ) → IsLeast (of3 a b c) 0 2 (least3 a b c)
+unfolding least3
+least3-is a b c = least-is (of3 a b c) 0 2
