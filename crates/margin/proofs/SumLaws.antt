@@ -6,7 +6,7 @@ use mathlib.Core.Logic.{_⊎_, inl, inr}
 use native.Mathlib.Omega.{arith}
 use native.Mathlib.Decide.{decLe}
 use lib.IntN.{ℤ, pos, _+ℤ_}
-use lib.Signed.{ltZ, _≤ℤ_, _<ℤ_, ≤ℤ-refl}
+use lib.Signed.{leZ, ltZ, _≤ℤ_, _<ℤ_, ≤ℤ-refl}
 use Rattle.std.proofs.shelf.Signed.{ints, by-ltZ}
 use Rattle.margin.specs.Sums.{total, least, of3, least3}
 
@@ -21,6 +21,12 @@ under a b e = omega (arith, ints)
 
 pub not-under : (a b : ℤ) → ltZ a b ≡ false → b ≤ℤ a
 not-under a b e = omega (arith, ints)
+
+pub at-most : (a b : ℤ) → leZ a b ≡ true → a ≤ℤ b
+at-most a b e = omega (arith, ints)
+
+pub not-at-most : (a b : ℤ) → leZ a b ≡ false → b ≤ℤ a
+not-at-most a b e = omega (arith, ints)
 
 -- ---- sums
 -- a sum does not fall where none of its parts does
@@ -50,22 +56,18 @@ pub record IsLeast (row : ℕ → ℤ) (a n : ℕ) (r : ℤ × ℕ) : Type 0 whe
   pub to : r .1 ≤ a + n
   pub none-less : (i : ℕ) → a ≤ i → i ≤ a + n → r .0 ≤ℤ row i
 
-module _ (row : ℕ → ℤ) (a : ℕ) where
-  at-one : (i : ℕ) → a ≤ i → i ≤ a + 0 → row a ≤ℤ row i
-  at-one i h k = let e : a ≡ i = omega arith in subst (λ (j : ℕ). row a ≤ℤ row j) e (≤ℤ-refl (row a))
+-- an item of one more in front is the new one, or one of those after
+in-front : (a i : ℕ) (P : ℕ → Type 0) → a ≤ i → P a → (suc a ≤ i → P i) → P i
+in-front a i P h new old = elim (decLe (suc a) i) [ yes k ↦ old k | no k ↦ (let e : a ≡ i = omega arith in subst P e new) ]
 
-  -- an item of one more is the new one, or one of those before
-  one-more : (n i : ℕ) (P : ℕ → Type 0) → i ≤ a + suc n → (i ≤ a + n → P i) → P (a + suc n) → P i
-  one-more n i P h old new = elim (decLe i (a + n)) [ yes k ↦ old k | no k ↦ (let e : a + suc n ≡ i = omega arith in subst P e new) ]
-
-  pub least-is : (n : ℕ) → IsLeast row a n (least ltZ row a n)
-  unfolding least
-  least-is zero = record { at = refl; from = omega arith; to = omega arith; none-less = at-one }
-  least-is (suc n) = choose (least-is n) (ltZ (row (a + suc n)) (least ltZ row a n .0)) refl
-    where
-      choose : (old : IsLeast row a n (least ltZ row a n)) (b : Bool) → ltZ (row (a + suc n)) (least ltZ row a n .0) ≡ b → IsLeast row a (suc n) (elim b [ true ↦ (row (a + suc n), a + suc n) | false ↦ least ltZ row a n ])
-      choose old true e = record { at = refl; from = omega arith; to = omega arith; none-less = λ i h k. one-more n i (λ j. row (a + suc n) ≤ℤ row j) k (λ k′. ≤ℤ-trans _ _ _ (under _ _ e) (old .none-less i h k′)) (≤ℤ-refl _) }
-      choose old false e = record { at = old .at; from = old .from; to = omega arith; none-less = λ i h k. one-more n i (λ j. least ltZ row a n .0 ≤ℤ row j) k (λ k′. old .none-less i h k′) (not-under _ _ e) }
+pub least-is : (row : ℕ → ℤ) (a n : ℕ) → IsLeast row a n (least leZ row a n)
+unfolding least
+least-is row a zero = record { at = refl; from = omega arith; to = omega arith; none-less = λ i h k. in-front a i (λ j. row a ≤ℤ row j) h (≤ℤ-refl (row a)) (λ k′. absurd (omega arith)) }
+least-is row a (suc n) = choose (least leZ row (suc a) n) (least-is row (suc a) n) (leZ (row a) (least leZ row (suc a) n .0)) refl
+  where
+    choose : (later : ℤ × ℕ) → IsLeast row (suc a) n later → (b : Bool) → leZ (row a) (later .0) ≡ b → IsLeast row a (suc n) (elim b [ true ↦ (row a, a) | false ↦ later ])
+    choose later old true e = record { at = refl; from = omega arith; to = omega arith; none-less = λ i h k. in-front a i (λ j. row a ≤ℤ row j) h (≤ℤ-refl (row a)) (λ k′. ≤ℤ-trans _ _ _ (at-most _ _ e) (old .none-less i k′ (omega arith))) }
+    choose later old false e = record { at = old .at; from = omega (arith, old .from); to = omega (arith, old .to); none-less = λ i h k. in-front a i (λ j. later .0 ≤ℤ row j) h (not-at-most _ _ e) (λ k′. old .none-less i k′ (omega arith)) }
 
 -- ---- the least of three
 pub least3-is : (a b c : ℤ) → IsLeast (of3 a b c) 0 2 (least3 a b c)

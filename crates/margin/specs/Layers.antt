@@ -1,11 +1,11 @@
 -- From cells to the margin, for any cells: cells m p k is the cell of month m at point p and column k, and last is the grid's last point.
 use Prim.Native.Nat.{ℕ, zero, suc, _+_, _-_, _/_, _<_, min}
-use mathlib.Core.Bool.{Bool, true, false, _||_, _&&_}
-use lib.Dec.{eqb, ltb}
+use mathlib.Core.Bool.{Bool, true, false}
 use lib.ListN.{length}
 use lib.IntN.{ℤ, pos, negsuc, _+ℤ_}
-use lib.Signed.{ltZ}
+use lib.Signed.{leZ}
 use Rattle.std.specs.Numbers.{minZ}
+use Rattle.order.specs.Items.{costlier}
 use Rattle.margin.specs.Sums.{least, least3}
 use Rattle.margin.specs.Book.{Cards, nettedFamily, nettedBasket, windowOf, overBaskets, overMonths}
 
@@ -13,10 +13,6 @@ use Rattle.margin.specs.Book.{Cards, nettedFamily, nettedBasket, windowOf, ove
 unfoldable pub lossOf : ℤ → ℕ
 lossOf (pos n) = 0
 lossOf (negsuc n) = suc n
-
--- a family's record, its loss and its number, comes first with the greater loss, then with the lower number
-unfoldable pub costlier : ℕ × ℕ → ℕ × ℕ → Bool
-costlier x y = ltb (y .0) (x .0) || (eqb (x .0) (y .0) && ltb (x .1) (y .1))
 
 -- the points of the grid that lie within w points of p begin at the one and end at the other
 abbrev pub windowStart : ℕ → ℕ → ℕ
@@ -65,7 +61,7 @@ module _ (cards : Cards) (cells : ℕ → ℕ → ℕ → ℤ) where
 module _ (last : ℕ) (cards : Cards) (cells : ℕ → ℕ → ℕ → ℤ) where
   -- the worst of a basket within w points of p, with its first point
   unfoldable pub worstWithin : ℕ → ℕ → ℕ → ℤ × ℕ
-  worstWithin w b p = least ltZ (basketResult cards cells b) (windowStart w p) (windowEnd last w p - windowStart w p)
+  worstWithin w b p = least leZ (basketResult cards cells b) (windowStart w p) (windowEnd last w p - windowStart w p)
 
   unfoldable pub nettedFamilyResult : ℕ → ℕ → ℤ
   nettedFamilyResult f p = overBaskets cards f (λ b. worstWithin (windowOf cards f) b p .0)
@@ -78,7 +74,7 @@ module _ (last : ℕ) (cards : Cards) (cells : ℕ → ℕ → ℕ → ℤ) wher
 
   -- the worst of a family's row, with its first point
   unfoldable pub familyWorst : ℕ → ℤ × ℕ
-  familyWorst f = least ltZ (familyResult f) 0 last
+  familyWorst f = least leZ (familyResult f) 0 last
 
   unfoldable pub familyLoss : ℕ → ℕ
   familyLoss f = lossOf (familyWorst f .0)
@@ -98,4 +94,4 @@ module _ (last : ℕ) (cards : Cards) (cells : ℕ → ℕ → ℕ → ℤ) wher
 
   -- the family with the greatest loss, the lowest among equals
   unfoldable pub costliest : ℕ
-  costliest = least costlier (λ f. (familyLoss f, f)) 0 (length (cards .families) - 1) .1
+  costliest = least costlier (λ f. record { family = f; loss = familyLoss f }) 0 (length (cards .families) - 1) .1

@@ -2,7 +2,9 @@
 use Prim.Native.Nat.{ℕ, zero, suc, _+_}
 use mathlib.Core.Bool.{Bool, true, false}
 use lib.IntN.{ℤ, pos, _+ℤ_}
-use lib.Signed.{ltZ}
+use lib.Signed.{leZ}
+use Rattle.std.specs.declared.option.Option.the-variants.{Some}
+use Rattle.order.specs.Orders.{lesserOf}
 
 -- the sum of what each number below n gives, over those that pass the test
 unfoldable pub total : ℕ → (ℕ → Bool) → (ℕ → ℤ) → ℤ
@@ -11,11 +13,8 @@ total (suc n) test part = total n test part +ℤ elim (test n) [ true ↦ part n
 
 -- the least of a row's items at first, first + 1, .., first + more, and the first place where it stands
 unfoldable pub least : {A : Type 0} → (A → A → Bool) → (ℕ → A) → ℕ → ℕ → A × ℕ
-least less row first zero = (row first, first)
-least less row first (suc more) =
-    let best = least less row first more in
-    let next = row (first + suc more) in
-    elim (less next (best .0)) [ true ↦ (next, first + suc more) | false ↦ best ]
+least atMost row first zero = (row first, first)
+least atMost row first (suc more) = lesserOf atMost (row first, first) (Some (least atMost row (suc first) more))
 
 abbrev pub of3 : ℤ → ℤ → ℤ → ℕ → ℤ
 of3 a b c zero = a
@@ -24,4 +23,4 @@ of3 a b c (suc (suc n)) = c
 
 -- the least of three, and the first of the places 0, 1, 2 where it stands
 unfoldable pub least3 : ℤ → ℤ → ℤ → ℤ × ℕ
-least3 a b c = least ltZ (of3 a b c) 0 2
+least3 a b c = least leZ (of3 a b c) 0 2
