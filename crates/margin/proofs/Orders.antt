@@ -1,10 +1,10 @@
 -- What counting an order or not does to a cell: the margin's cells are lowest, and the world handed out has them in each cell that it takes. Assumes nothing.
 use Prim.Native.Nat.{ℕ, zero, suc, _+_, _≤_, _<_}
 use mathlib.Core.Path.{_≡_, refl, sym, ap, _∙_, subst}
-use mathlib.Core.Bool.{Bool, true, false}
+use mathlib.Core.Bool.{Bool, true, false, _&&_}
 use mathlib.Core.Logic.{_⊎_, inl, inr}
 use native.Mathlib.Omega.{arith}
-use lib.Dec.{T, eqb, leb, eqb→eq}
+use lib.Dec.{T, eqb, leb, ltb, eqb→eq}
 use lib.ListN.{length}
 use lib.IntN.{ℤ, pos, negsuc, _+ℤ_, _-ℤ_}
 use lib.Signed.{ltZ, _≤ℤ_, ≤ℤ-refl}
@@ -17,7 +17,7 @@ use Rattle.margin.specs.declared.choice.Kept.{Kept}
 use Rattle.margin.specs.declared.choice.Counted.{Counted}
 use Rattle.margin.specs.Sums.{total}
 use Rattle.margin.specs.Book.{Cards, Book, named, basket, month, line, order, ofLine, inMonth, inBasket, inFamily, position, overBaskets, overMonths, overLines, overOrders}
-use Rattle.margin.specs.Cells.{positionResult, orderResult, charged, lineCell, monthCell, cells}
+use Rattle.margin.specs.Cells.{positionResult, orderResult, charged, gridded, lineCell, monthCell, cells}
 use Rattle.margin.specs.Worlds.{World, AtMostOne, Curves, HalfMonth, columnTaken, monthTaken, basketTaken, familyTaken, taken, countedIn, worldCells}
 use Rattle.margin.specs.HandedOut.{basketPoint, monthKept, choices, loses, losesIn, countedAt, countedOf, handedOut}
 use Rattle.margin.proofs.ByRule.{chosen}
@@ -48,10 +48,14 @@ module _ (cards : Cards) (w : World) (lower higher : ℕ → ℕ → ℕ → ℤ
 module _ (last : ℕ) (price : ℕ → ℕ → ℕ → ℤ) (cards : Cards) (book : Book) where
   -- ---- cells in which each order adds no more
   pub cell-le : (f g : ℕ → ℤ → ℤ) (m p k : ℕ) → ((l i : ℕ) → inMonth cards m l ≡ true → ofLine book l i ≡ true → f i (orderResult (order book i) (price l p k) k) ≤ℤ g i (orderResult (order book i) (price l p k) k)) → monthCell last price cards book f m p k ≤ℤ monthCell last price cards book g m p k
-  unfolding monthCell lineCell
-  cell-le f g m p k h =
-      total-le _ _ _ _ (λ l less inside. sum-le _ _ _ _ (≤ℤ-refl (positionResult (position book l) (price l p k) k -ℤ charged last cards book l p k))
-      (total-le _ _ _ _ (λ i less′ its. h l i inside its)))
+  unfolding monthCell lineCell gridded
+  cell-le f g m p k h = by (ltb m (length (cards .months)) && (leb p last && ltb k 7))
+    where
+      by : (on : Bool) → (elim on [ true ↦ overLines cards m (λ l. lineCell last price cards book f l p k) | false ↦ pos 0 ]) ≤ℤ (elim on [ true ↦ overLines cards m (λ l. lineCell last price cards book g l p k) | false ↦ pos 0 ])
+      by true =
+          total-le _ _ _ _ (λ l less inside. sum-le _ _ _ _ (≤ℤ-refl (positionResult (position book l) (price l p k) k -ℤ charged last cards book l p k))
+          (total-le _ _ _ _ (λ i less′ its. h l i inside its)))
+      by false = ≤ℤ-refl (pos 0)
 
   counted-below : (b : Bool) (r : ℤ) → minZ (pos 0) r ≤ℤ (elim b [ true ↦ r | false ↦ pos 0 ])
   counted-below true r = lesser-r r

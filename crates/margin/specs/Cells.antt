@@ -1,8 +1,9 @@
 -- What fills a month's cell at a point of the grid and a column.
 -- Columns 0, 1 and 2, the volatility curves, hold a contract's price; 3 and 4, the rate curve down and up, and 5 and 6, its twists, hold only the change of that price. Money is in grains, of which a kopeck has 80,000.
 use Prim.Native.Nat.{ℕ}
-use mathlib.Core.Bool.{Bool, true, false}
-use lib.Dec.{eqb, leb}
+use mathlib.Core.Bool.{Bool, true, false, _&&_}
+use lib.Dec.{eqb, leb, ltb}
+use lib.ListN.{length}
 use lib.IntN.{ℤ, pos, negℤ, _+ℤ_, _-ℤ_, _*ℤ_}
 use Rattle.std.specs.Numbers.{maxZ, minZ}
 use Rattle.terms.specs.declared.cards.Line.{Line}
@@ -13,6 +14,10 @@ use Rattle.margin.specs.Book.{Cards, Book, line, isFuture, overLines, position
 -- a column that holds prices, not changes of prices
 abbrev pub holdsPrice : ℕ → Bool
 holdsPrice column = leb column 2
+
+-- cells as given at so many months, the points up to the last and the seven columns, and 0 outside
+unfoldable pub gridded : ℕ → ℕ → (ℕ → ℕ → ℕ → ℤ) → ℕ → ℕ → ℕ → ℤ
+gridded last months cells m point column = elim (ltb m months && (leb point last && ltb column 7)) [ true ↦ cells m point column | false ↦ pos 0 ]
 
 -- ---- results
 unfoldable pub positionResult : Position → ℤ → ℕ → ℤ
@@ -65,9 +70,9 @@ module _ (last : ℕ) (price : ℕ → ℕ → ℕ → ℤ) (cards : Cards) (boo
       positionResult (position book l) here column -ℤ charged last cards book l point column
       +ℤ overOrders book l (λ i. counts i (orderResult (order book i) here column))
 
-  -- a month's cell adds up its lines
+  -- a month's cell adds up its lines; outside the grid it is 0
   unfoldable pub monthCell : (ℕ → ℤ → ℤ) → ℕ → ℕ → ℕ → ℤ
-  monthCell counts m point column = overLines cards m (λ l. lineCell counts l point column)
+  monthCell counts = gridded last (length (cards .months)) (λ m point column. overLines cards m (λ l. lineCell counts l point column))
 
   -- the cells that the margin is worked out from: each order counts only where its result is negative
   unfoldable pub cells : ℕ → ℕ → ℕ → ℤ
