@@ -1,12 +1,15 @@
 -- The laws of `total`, of `least` and of `least3`. Assumes nothing.
 use Prim.Native.Nat.{ℕ, zero, suc, _+_, _≤_, _<_}
-use mathlib.Core.Path.{_≡_, refl, sym, ap, _∙_, subst}
+use mathlib.Core.Path.{_≡_, refl, sym, ap, ap₂, _∙_, subst}
 use mathlib.Core.Bool.{Bool, true, false}
 use mathlib.Core.Logic.{_⊎_, inl, inr}
+use native.Mathlib.Numerals.{add-one}
 use native.Mathlib.Omega.{arith}
 use native.Mathlib.Decide.{decLe}
 use lib.IntN.{ℤ, pos, _+ℤ_}
 use lib.Signed.{leZ, ltZ, _≤ℤ_, _<ℤ_, ≤ℤ-refl}
+use Rattle.std.specs.declared.option.Option.the-variants.{Some}
+use Rattle.order.specs.Orders.{lesserOf}
 use Rattle.std.proofs.shelf.Signed.{ints, by-ltZ}
 use Rattle.margin.specs.Sums.{total, least, of3, least3}
 
@@ -38,6 +41,11 @@ total-le (suc n) test f g h = sum-le _ _ _ _ (total-le n test f g (λ i less. h 
     here : (b : Bool) → test n ≡ b → (elim b [ true ↦ f n | false ↦ pos 0 ]) ≤ℤ (elim b [ true ↦ g n | false ↦ pos 0 ])
     here true e = h n (omega arith) e
     here false e = ≤ℤ-refl (pos 0)
+
+-- one number more, as a loop that counts up by one has it
+pub total-next : (n : ℕ) (test : ℕ → Bool) (part : ℕ → ℤ) (x : ℤ) → x ≡ (elim (test n) [ true ↦ part n | false ↦ pos 0 ]) → total (n + 1) test part ≡ total n test part +ℤ x
+unfolding total
+total-next n test part x e = ap (λ (k : ℕ). total k test part) (add-one n) ∙ ap (λ (z : ℤ). total n test part +ℤ z) (sym e)
 
 pub total-add : (n : ℕ) (test : ℕ → Bool) (f g : ℕ → ℤ) → total n test (λ i. f i +ℤ g i) ≡ total n test f +ℤ total n test g
 unfolding total
@@ -73,3 +81,13 @@ least-is row a (suc n) = choose (least leZ row (suc a) n) (least-is row (suc a) 
 pub least3-is : (a b c : ℤ) → IsLeast (of3 a b c) 0 2 (least3 a b c)
 unfolding least3
 least3-is a b c = least-is (of3 a b c) 0 2
+
+-- rows that agree have the same least, under any order
+pub least-same : {A : Type 0} (atMost : A → A → Bool) (f g : ℕ → A) (a n : ℕ) → ((i : ℕ) → a ≤ i → i ≤ a + n → f i ≡ g i) → least atMost f a n ≡ least atMost g a n
+unfolding least
+least-same {A} atMost f g a zero h = ap (λ (x : A). pair x a) (h a (omega arith) (omega arith))
+  where
+    pair : A → ℕ → A × ℕ
+    pair x k = (x, k)
+least-same {A} atMost f g a (suc n) h =
+    ap₂ (λ (x : A) (later : A × ℕ). lesserOf atMost (x, a) (Some later)) (h a (omega arith) (omega arith)) (least-same atMost f g (suc a) n (λ i k l. h i (omega arith) (omega arith)))
