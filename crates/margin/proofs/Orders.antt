@@ -19,11 +19,11 @@ use Rattle.margin.specs.Sums.{total}
 use Rattle.margin.specs.Book.{Cards, Book, named, basket, month, line, order, ofLine, inMonth, inBasket, inFamily, position, overBaskets, overMonths, overLines, overOrders}
 use Rattle.margin.specs.Cells.{positionResult, orderResult, charged, gridded, lineCell, monthCell, cells}
 use Rattle.margin.specs.Worlds.{World, AtMostOne, Curves, HalfMonth, columnTaken, monthTaken, basketTaken, familyTaken, taken, countedIn, worldCells}
-use Rattle.margin.specs.HandedOut.{basketPoint, monthKept, choices, loses, losesIn, countedAt, countedOf, handedOut}
+use Rattle.margin.specs.HandedOut.{upTo, basketPoint, monthKept, choices, loses, losesIn, countedAt, countedOf, handedOut}
 use Rattle.margin.proofs.ByRule.{chosen}
 use Rattle.margin.proofs.SumLaws.{≤ℤ-trans, sum-le, under, not-under, total-le}
 use Rattle.margin.proofs.Below.{lesser-0, lesser-r}
-use Rattle.margin.proofs.Reached.{named-is, month-allowed}
+use Rattle.margin.proofs.Reached.{named-is, up-to-some, month-allowed}
 
 -- an order that is counted exactly if it loses adds no more than the lesser of 0 and its result
 as-it-loses : (b : Bool) (r : ℤ) → b ≡ ltZ r (pos 0) → (elim b [ true ↦ r | false ↦ pos 0 ]) ≤ℤ minZ (pos 0) r
@@ -107,11 +107,15 @@ module _ (last : ℕ) (price : ℕ → ℕ → ℕ → ℤ) (cards : Cards) (boo
     kept-lowest : HalfMonth (Some kept) → monthTaken (worldCells last price cards book (handedOut last price cards book)) m p (Some kept) ≤ℤ monthTaken (cells last price cards book) m p (Some kept)
     kept-lowest h = sum-le _ _ _ _ (volatility-lowest (h .0)) (sum-le _ _ _ _ (rate-lowest (kept .rate) refl (h .1 .one-rate)) (twist-lowest (kept .twist) refl (h .1 .one-twist)))
 
-  month-lowest : (m p : ℕ) → basketPoint last cards (cells last price cards book) (named (month cards m .basket)) ≡ Some p → (o : Option Kept) → monthKept last cards (cells last price cards book) m ≡ o → HalfMonth o → monthTaken (worldCells last price cards book (handedOut last price cards book)) m p o ≤ℤ monthTaken (cells last price cards book) m p o
-  month-lowest m p e None is h = ≤ℤ-refl (pos 0)
-  month-lowest m p e (Some kept) is h = kept-lowest m p kept e is h
+  month-lowest : (m p : ℕ) → basketPoint last cards (cells last price cards book) (named (month cards m .basket)) ≡ Some p → (o : Option Kept) → upTo (length (cards .months)) (monthKept last cards (cells last price cards book)) m ≡ o → monthTaken (worldCells last price cards book (handedOut last price cards book)) m p o ≤ℤ monthTaken (cells last price cards book) m p o
+  month-lowest m p e None is = ≤ℤ-refl (pos 0)
+  month-lowest m p e (Some kept) is =
+      let kept-is = up-to-some (length (cards .months)) (monthKept last cards (cells last price cards book)) m kept is in
+      kept-lowest m p kept e kept-is (subst HalfMonth kept-is (month-allowed (cells last price cards book) last cards (countedOf last price cards book) m))
 
   -- with its orders counted so, the world handed out takes no more than the margin's cells
   pub handed-out-lowest : taken cards (worldCells last price cards book (handedOut last price cards book)) (handedOut last price cards book) ≤ℤ taken cards (cells last price cards book) (handedOut last price cards book)
   unfolding handedOut choices
-  handed-out-lowest = taken-le cards (handedOut last price cards book) _ _ (λ m p e. month-lowest m p e (monthKept last cards (cells last price cards book) m) refl (month-allowed (cells last price cards book) last cards (countedOf last price cards book) m))
+  handed-out-lowest =
+      taken-le cards (handedOut last price cards book) _ _ (λ m p e.
+      month-lowest m p (up-to-some (length (cards .baskets)) (basketPoint last cards (cells last price cards book)) (named (month cards m .basket)) p e) (upTo (length (cards .months)) (monthKept last cards (cells last price cards book)) m) refl)

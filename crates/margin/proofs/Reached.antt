@@ -5,7 +5,7 @@ use mathlib.Core.Bool.{Bool, true, false}
 use mathlib.Core.Logic.{_⊎_, inl, inr}
 use native.Mathlib.Omega.{arith}
 use native.Mathlib.Nat.{add-zero}
-use lib.Dec.{T, eqb, eqb→eq}
+use lib.Dec.{T, eqb, ltb, eqb→eq}
 use lib.ListN.{length}
 use lib.IntN.{ℤ, pos, negsuc, _+ℤ_}
 use lib.Signed.{ltZ, _≤ℤ_, ≤ℤ-refl}
@@ -13,14 +13,15 @@ use Rattle.std.specs.Numbers.{minZ}
 use Rattle.std.specs.declared.option.Option.{Option}
 use Rattle.std.specs.declared.option.Option.the-variants.{Some, None}
 use Rattle.std.proofs.shelf.Signed.{ints, clamps}
+use Rattle.std.proofs.shelf.Tests.{lt-ltb}
 use Rattle.margin.specs.declared.choice.Kept.{Kept}
 use Rattle.margin.specs.declared.choice.Counted.{Counted}
 use Rattle.margin.specs.Sums.{total, least, of3, least3}
 use Rattle.margin.specs.Book.{Cards, names, named, basket, month, nettedFamily, nettedBasket, windowOf, inFamily, inBasket, overBaskets, overMonths}
 use Rattle.margin.specs.Layers.{windowStart, windowEnd, volatilityResult, rateResult, twistResult, curveResult, monthResult, nettedColumn, nettedBasketResult, halfBasketResult, basketResult, worstWithin, nettedFamilyResult, halfFamilyResult, familyResult, familyWorst}
 use Rattle.margin.specs.Worlds.{World, Near, AtMostOne, Curves, HalfMonth, NettedMonth, Months, BasketAt, FamilyAt, IsWorld, columnTaken, monthTaken, basketTaken, familyTaken, taken}
-use Rattle.margin.specs.HandedOut.{takeIfBelow0, columnAt, keptWith, monthIn, basketIn, familyPoint, basketPoint, monthKept, choices}
-use Rattle.margin.proofs.ByRule.{chosen, netted-basket, half-basket, netted-family, half-family}
+use Rattle.margin.specs.HandedOut.{upTo, takeIfBelow0, columnAt, keptWith, monthIn, basketIn, familyPoint, basketPoint, monthKept, choices}
+use Rattle.margin.proofs.ByRule.{chosen, netted-basket, half-basket, netted-family, half-family, netted-month, half-month, netted-choice, half-choice}
 use Rattle.margin.proofs.SumLaws.{≤ℤ-trans, sum-le, under, not-under, total-le, total-add, IsLeast, least-is, least3-is}
 
 -- a card that names a number has it
@@ -46,6 +47,19 @@ take-reached r a value none some = take-cases r a (λ o. value o ≤ℤ minZ (po
 
     kept : (v : ℤ) → v ≤ℤ r → r ≤ℤ pos 0 → v ≤ℤ minZ (pos 0) r
     kept v h k = omega (arith, ints, clamps)
+
+-- a number below the bound has its choice, and what is chosen is that choice
+pub up-to-is : {A : Type 0} (n : ℕ) (choice : ℕ → Option A) (i : ℕ) → i < n → upTo n choice i ≡ choice i
+unfolding upTo
+up-to-is n choice i h = chosen (choice i) None (ltb i n) true (lt-ltb i n h)
+
+pub up-to-some : {A : Type 0} (n : ℕ) (choice : ℕ → Option A) (i : ℕ) (a : A) → upTo n choice i ≡ Some a → choice i ≡ Some a
+unfolding upTo
+up-to-some {A} n choice i a e = by (ltb i n) e
+  where
+    by : (b : Bool) → _≡_ {A = Option A} (elim b [ true ↦ choice i | false ↦ None ]) (Some a) → choice i ≡ Some a
+    by true k = k
+    by false k = let z : _≡_ {A = ℕ} 0 1 = cc in absurd (omega arith)
 
 -- the column at a place of the three: none, the first or the one after
 pub column-at : (first n : ℕ) → n ≤ 2 → AtMostOne first (columnAt first n)
@@ -117,14 +131,6 @@ module _ (cells : ℕ → ℕ → ℕ → ℤ) where
     unfolding nettedColumn
     column-sum-reached b p = column-sum b p _ (column-place b p) ∙ least3-is (overMonths cards b (λ m. cells m p 0)) (overMonths cards b (λ m. cells m p 1)) (overMonths cards b (λ m. cells m p 2)) .at
 
-    netted-month : (b p m : ℕ) → nettedBasket cards b ≡ true → monthIn last cards cells b p m ≡ Some (keptWith cells (nettedColumn cards cells b p .1) m p)
-    unfolding monthIn
-    netted-month b p m e = chosen (Some (keptWith cells (nettedColumn cards cells b p .1) m p)) (takeIfBelow0 (monthResult cells m p) (keptWith cells (volatilityResult cells m p .1) m p)) _ _ e
-
-    half-month : (b p m : ℕ) → nettedBasket cards b ≡ false → monthIn last cards cells b p m ≡ takeIfBelow0 (monthResult cells m p) (keptWith cells (volatilityResult cells m p .1) m p)
-    unfolding monthIn
-    half-month b p m e = chosen (Some (keptWith cells (nettedColumn cards cells b p .1) m p)) (takeIfBelow0 (monthResult cells m p) (keptWith cells (volatilityResult cells m p .1) m p)) _ _ e
-
     -- a month of a basket that is taken
     month-is : (b p m : ℕ) → basketPoint last cards cells b ≡ Some p → inBasket cards b m ≡ true → monthKept last cards cells m ≡ monthIn last cards cells b p m
     unfolding monthKept inBasket
@@ -133,25 +139,20 @@ module _ (cells : ℕ → ℕ → ℕ → ℤ) where
         by : ℕ → Option ℕ → Option Kept
         by c o = elim o [ None ↦ None | Some q ↦ monthIn last cards cells c q m ]
 
+    in-list : (m : ℕ) → m < length (cards .months) → upTo (length (cards .months)) (monthKept last cards cells) m ≡ monthKept last cards cells m
+    in-list m less = up-to-is (length (cards .months)) (monthKept last cards cells) m less
+
     basket-reached : (b p : ℕ) (netted : Bool) → nettedBasket cards b ≡ netted → basketPoint last cards cells b ≡ Some p → basketTaken cards cells handed b (Some p) ≤ℤ basketResult cards cells b p
     unfolding handed choices nettedBasketResult halfBasketResult
     basket-reached b p true e at =
         rw (netted-basket last cards cells b p e, ← column-sum-reached b p)
         (rw (← total-add _ _ (λ m. cells m p (nettedColumn cards cells b p .1)) (λ m. curveResult cells m p))
-        (total-le _ _ _ _ (λ m less inside. rw (month-is b p m at inside, netted-month b p m e, kept-reached (nettedColumn cards cells b p .1) m p) (≤ℤ-refl _))))
+        (total-le _ _ _ _ (λ m less inside. rw (in-list m less, month-is b p m at inside, netted-month last cards cells b p m e, kept-reached (nettedColumn cards cells b p .1) m p) (≤ℤ-refl _))))
     basket-reached b p false e at =
         rw (half-basket last cards cells b p e)
-        (total-le _ _ _ _ (λ m less inside. rw (month-is b p m at inside, half-month b p m e) (half-month-reached m p)))
+        (total-le _ _ _ _ (λ m less inside. rw (in-list m less, month-is b p m at inside, half-month last cards cells b p m e) (half-month-reached m p)))
 
     -- ---- a family
-    netted-choice : (f p b : ℕ) → nettedFamily cards f ≡ true → basketIn last cards cells f p b ≡ Some (worstWithin last cards cells (windowOf cards f) b p .1)
-    unfolding basketIn
-    netted-choice f p b e = chosen (Some (worstWithin last cards cells (windowOf cards f) b p .1)) (takeIfBelow0 (basketResult cards cells b p) p) _ _ e
-
-    half-choice : (f p b : ℕ) → nettedFamily cards f ≡ false → basketIn last cards cells f p b ≡ takeIfBelow0 (basketResult cards cells b p) p
-    unfolding basketIn
-    half-choice f p b e = chosen (Some (worstWithin last cards cells (windowOf cards f) b p .1)) (takeIfBelow0 (basketResult cards cells b p) p) _ _ e
-
     -- a basket of a family that is taken
     basket-is : (f p b : ℕ) → familyPoint last cards cells f ≡ Some p → inFamily cards f b ≡ true → basketPoint last cards cells b ≡ basketIn last cards cells f p b
     unfolding basketPoint inFamily
@@ -171,14 +172,14 @@ module _ (cells : ℕ → ℕ → ℕ → ℤ) where
     half-basket-reached p b e = subst (λ (o : Option ℕ). basketTaken cards cells handed b o ≤ℤ minZ (pos 0) (basketResult cards cells b p)) (sym e)
         (take-reached (basketResult cards cells b p) p (basketTaken cards cells handed b) (≤ℤ-refl (pos 0)) (λ k. basket-reached b p (nettedBasket cards b) refl (e ∙ k)))
 
-    family-at-reached : (f p : ℕ) (netted : Bool) → nettedFamily cards f ≡ netted → familyPoint last cards cells f ≡ Some p → overBaskets cards f (λ b. basketTaken cards cells handed b (basketPoint last cards cells b)) ≤ℤ familyResult last cards cells f p
+    family-at-reached : (f p : ℕ) (netted : Bool) → nettedFamily cards f ≡ netted → familyPoint last cards cells f ≡ Some p → overBaskets cards f (λ b. basketTaken cards cells handed b (upTo (length (cards .baskets)) (basketPoint last cards cells) b)) ≤ℤ familyResult last cards cells f p
     unfolding nettedFamilyResult halfFamilyResult
     family-at-reached f p true e at =
         rw (netted-family last cards cells f p e)
-        (total-le _ _ _ _ (λ b less inside. netted-basket-reached f p b (basket-is f p b at inside ∙ netted-choice f p b e)))
+        (total-le _ _ _ _ (λ b less inside. rw (up-to-is (length (cards .baskets)) (basketPoint last cards cells) b less) (netted-basket-reached f p b (basket-is f p b at inside ∙ netted-choice last cards cells f p b e))))
     family-at-reached f p false e at =
         rw (half-family last cards cells f p e)
-        (total-le _ _ _ _ (λ b less inside. half-basket-reached p b (basket-is f p b at inside ∙ half-choice f p b e)))
+        (total-le _ _ _ _ (λ b less inside. rw (up-to-is (length (cards .baskets)) (basketPoint last cards cells) b less) (half-basket-reached p b (basket-is f p b at inside ∙ half-choice last cards cells f p b e))))
 
     row-reached : (f : ℕ) → familyResult last cards cells f (familyWorst last cards cells f .1) ≡ familyWorst last cards cells f .0
     unfolding familyWorst
@@ -192,12 +193,12 @@ module _ (cells : ℕ → ℕ → ℕ → ℤ) where
 
     pub world-reached : taken cards cells (choices last cards cells orders) ≤ℤ total (length (cards .families)) (λ f. true) (λ f. minZ (pos 0) (familyWorst last cards cells f .0))
     unfolding taken handed choices
-    world-reached = total-le _ _ _ _ (λ f less each. family-reached f)
+    world-reached = total-le _ _ _ _ (λ f less each. rw (up-to-is (length (cards .families)) (familyPoint last cards cells) f less) (family-reached f))
 
     -- ---- the choices make a world
     month-in-allowed : (b p m : ℕ) (netted : Bool) → nettedBasket cards b ≡ netted → HalfMonth (monthIn last cards cells b p m)
-    month-in-allowed b p m true e = rw (netted-month b p m e) (kept-allowed _ m p (column-place b p))
-    month-in-allowed b p m false e = rw (half-month b p m e) (take-cases _ _ HalfMonth (λ h. tt) (λ h k. kept-allowed _ m p (volatility-place m p)))
+    month-in-allowed b p m true e = rw (netted-month last cards cells b p m e) (kept-allowed _ m p (column-place b p))
+    month-in-allowed b p m false e = rw (half-month last cards cells b p m e) (take-cases _ _ HalfMonth (λ h. tt) (λ h k. kept-allowed _ m p (volatility-place m p)))
 
     pub month-allowed : (m : ℕ) → HalfMonth (monthKept last cards cells m)
     unfolding monthKept
@@ -212,12 +213,12 @@ module _ (cells : ℕ → ℕ → ℕ → ℤ) where
     months-allowed b p true e at = (
       nettedColumn cards cells b p .1,
       column-place b p,
-      λ m less inside. subst (λ (o : Option Kept). NettedMonth (nettedColumn cards cells b p .1) o) (sym (month-is b p m at inside ∙ netted-month b p m e)) (at-column m),
+      λ m less inside. subst (λ (o : Option Kept). NettedMonth (nettedColumn cards cells b p .1) o) (sym (in-list m less ∙ month-is b p m at inside ∙ netted-month last cards cells b p m e)) (at-column m),
     )
       where
         at-column : (m : ℕ) → NettedMonth (nettedColumn cards cells b p .1) (Some (keptWith cells (nettedColumn cards cells b p .1) m p))
         at-column m = (refl, kept-allowed _ m p (column-place b p) .1)
-    months-allowed b p false e at = λ m less inside. month-allowed m
+    months-allowed b p false e at = λ m less inside. rw (in-list m less) (month-allowed m)
 
     worst-near : (w b p : ℕ) → p ≤ last → Near last w p (worstWithin last cards cells w b p .1)
     unfolding worstWithin
@@ -227,11 +228,11 @@ module _ (cells : ℕ → ℕ → ℕ → ℤ) where
 
     basket-allowed : (f p b : ℕ) (netted : Bool) → nettedFamily cards f ≡ netted → p ≤ last → familyPoint last cards cells f ≡ Some p → inFamily cards f b ≡ true → BasketAt last cards (choices last cards cells orders) f p b netted (basketPoint last cards cells b)
     basket-allowed f p b true e h at inside =
-        let is = basket-is f p b at inside ∙ netted-choice f p b e in
+        let is = basket-is f p b at inside ∙ netted-choice last cards cells f p b e in
         subst (λ (o : Option ℕ). BasketAt last cards (choices last cards cells orders) f p b true o) (sym is)
         (worst-near (windowOf cards f) b p h, months-allowed b _ (nettedBasket cards b) refl is)
     basket-allowed f p b false e h at inside =
-        let is = basket-is f p b at inside ∙ half-choice f p b e in
+        let is = basket-is f p b at inside ∙ half-choice last cards cells f p b e in
         subst (λ (o : Option ℕ). BasketAt last cards (choices last cards cells orders) f p b false o) (sym is)
         (take-cases (basketResult cards cells b p) p (BasketAt last cards (choices last cards cells orders) f p b false) (λ k. tt) (λ k t. (refl, months-allowed b p (nettedBasket cards b) refl (is ∙ t))))
 
@@ -241,8 +242,8 @@ module _ (cells : ℕ → ℕ → ℕ → ℤ) where
         take-cases (familyWorst last cards cells f .0) (familyWorst last cards cells f .1) (FamilyAt last cards (choices last cards cells orders) f) (λ k. tt)
         (λ k at.
         let on-grid : familyWorst last cards cells f .1 ≤ last = omega (arith, least-is (familyResult last cards cells f) 0 last .to) in
-        (on-grid, λ b less inside. basket-allowed f _ b (nettedFamily cards f) refl on-grid at inside))
+        (on-grid, λ b less inside. rw (up-to-is (length (cards .baskets)) (basketPoint last cards cells) b less) (basket-allowed f _ b (nettedFamily cards f) refl on-grid at inside)))
 
     pub choices-make-a-world : IsWorld last cards (choices last cards cells orders)
     unfolding choices
-    choices-make-a-world f less = family-allowed f
+    choices-make-a-world f less = rw (up-to-is (length (cards .families)) (familyPoint last cards cells) f less) (family-allowed f)

@@ -1,6 +1,8 @@
 -- The world that is handed out with a margin: the lowest point and column among equals, nothing taken that may be left out and is not below 0, and an order counted in a cell exactly if it loses there.
 use Prim.Native.Nat.{ℕ, zero, suc, _+_}
 use mathlib.Core.Bool.{Bool, true, false}
+use lib.Dec.{ltb}
+use lib.ListN.{length}
 use lib.IntN.{ℤ, pos}
 use lib.Signed.{ltZ}
 use Rattle.std.specs.declared.option.Option.{Option}
@@ -15,6 +17,10 @@ use Rattle.margin.specs.Worlds.{World}
 -- what may be left out is taken only where its result is below 0
 unfoldable pub takeIfBelow0 : {A : Type 0} → ℤ → A → Option A
 takeIfBelow0 result a = elim (ltZ result (pos 0)) [ true ↦ Some a | false ↦ None ]
+
+-- a choice for each number below n, and none beyond
+unfoldable pub upTo : {A : Type 0} → ℕ → (ℕ → Option A) → ℕ → Option A
+upTo n choice i = elim (ltb i n) [ true ↦ choice i | false ↦ None ]
 
 -- the column at a place of a rate or twist result: place 0 is no column
 unfoldable pub columnAt : ℕ → ℕ → Option ℕ
@@ -54,7 +60,7 @@ module _ (last : ℕ) (cards : Cards) (cells : ℕ → ℕ → ℕ → ℤ) wher
 
   -- the world of these choices that counts the orders so
   unfoldable pub choices : (ℕ → Counted) → World
-  choices orders = record { families = familyPoint; baskets = basketPoint; months = monthKept; orders = orders }
+  choices orders = record { families = upTo (length (cards .families)) familyPoint; baskets = upTo (length (cards .baskets)) basketPoint; months = upTo (length (cards .months)) monthKept; orders = orders }
 
 -- ---- the orders
 module _ (last : ℕ) (price : ℕ → ℕ → ℕ → ℤ) (cards : Cards) (book : Book) where
