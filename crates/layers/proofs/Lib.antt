@@ -4,4 +4,5 @@ pub mod Losses
 pub mod Names
 pub mod Picks
 pub mod Sizes
+pub mod Taking
 pub mod Windows

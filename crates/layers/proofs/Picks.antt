@@ -12,6 +12,7 @@ use Rattle.std.specs.declared.option.Option.{Option}
 use Rattle.std.specs.declared.option.Option.the-variants.{Some}
 use Rattle.order.specs.Orders.{lesserOf, leastFrom, firstLeast}
 use Rattle.margin.specs.Sums.{least, of3, least3}
+use Rattle.margin.proofs.SumLaws.{IsLeast, least3-is}
 
 pub three : (a b c : ℤ) → firstLeast leZ (a ∷ b ∷ c ∷ []) ≡ Some (least3 a b c)
 unfolding leastFrom least least3
@@ -35,6 +36,9 @@ three-size a b c n ha hb hc = least-size (of3 a b c) n 0 2 each
     each zero = ha
     each (suc zero) = hb
     each (suc (suc i)) = hc
+
+pub three-place : (a b c : ℤ) → least3 a b c .1 ≤ 2
+three-place a b c = least3-is a b c .to
 
 -- ---- a part of a list, of any items
 module _ {A : Type 0} (atMost : A → A → Bool) where

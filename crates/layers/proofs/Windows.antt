@@ -14,6 +14,13 @@ use Rattle.margin.specs.Layers.{basketResult, worstWithin, nettedFamilyResult, 
 use Rattle.margin.specs.Sums.{least}
 use Rattle.margin.proofs.SumLaws.{least-same}
 
+-- a basket's entry at a point
+pub entry-at : (cards : Cards) (cells : ℕ → ℕ → ℕ → ℤ) (rows : List ℤ) (b q : ℕ) → b < 4 → q ≤ 16 → ((k : ℕ) → k < 68 → getD rows k (pos 0) ≡ basketResult cards cells (k / 17) (k % 17)) → getD rows (b * 17 + q) (pos 0) ≡ basketResult cards cells b q
+entry-at cards cells rows b q few-baskets few-points held =
+    let in-basket : (b * 17 + q) / 17 ≡ b = omega arith in
+    let at-point : (b * 17 + q) % 17 ≡ q = omega arith in
+    held (b * 17 + q) (omega arith) ∙ ap₂ (basketResult cards cells) in-basket at-point
+
 pub worst-found : (last : ℕ) (cards : Cards) (cells : ℕ → ℕ → ℕ → ℤ) (rows : List ℤ) (w b p start end : ℕ) (r : ℤ × ℕ) → p ≤ last → last ≤ 16 → b < 4 → ((k : ℕ) → k < 68 → getD rows k (pos 0) ≡ basketResult cards cells (k / 17) (k % 17)) → start ≡ p - min w p → end ≡ min (p + min w 16) last → r ≡ least leZ (λ q. getD rows (b * 17 + q) (pos 0)) start (end - start) → r ≡ worstWithin last cards cells w b p
 unfolding worstWithin
 worst-found last cards cells rows w b p start end r on-grid few-points few-baskets held from to found =
@@ -21,13 +28,7 @@ worst-found last cards cells rows w b p start end r on-grid few-points few-baske
     let more-is : end - start ≡ min (p + w) last - (p - w) = omega arith in
     found
     ∙ ap₂ (least leZ (λ q. getD rows (b * 17 + q) (pos 0))) start-is more-is
-    ∙ least-same leZ (λ q. getD rows (b * 17 + q) (pos 0)) (basketResult cards cells b) (p - w) (min (p + w) last - (p - w)) (λ q h k. at q (omega arith))
-  where
-    at : (q : ℕ) → q ≤ 16 → getD rows (b * 17 + q) (pos 0) ≡ basketResult cards cells b q
-    at q h =
-        let in-basket : (b * 17 + q) / 17 ≡ b = omega arith in
-        let at-point : (b * 17 + q) % 17 ≡ q = omega arith in
-        held (b * 17 + q) (omega arith) ∙ ap₂ (basketResult cards cells) in-basket at-point
+    ∙ least-same leZ (λ q. getD rows (b * 17 + q) (pos 0)) (basketResult cards cells b) (p - w) (min (p + w) last - (p - w)) (λ q h k. entry-at cards cells rows b q few-baskets (omega arith) held)
 
 -- a family adds up its baskets by its rule
 pub family-adds-up : (last : ℕ) (cards : Cards) (cells : ℕ → ℕ → ℕ → ℤ) (f p : ℕ) → overBaskets cards f (λ b. elim (nettedFamily cards f) [ true ↦ worstWithin last cards cells (windowOf cards f) b p .0 | false ↦ minZ (pos 0) (basketResult cards cells b p) ]) ≡ familyResult last cards cells f p

@@ -1,15 +1,18 @@
 -- What the program reads the layers from: cards and a table of cells.
-use Prim.Native.Nat.{ℕ, _+_, _*_, _/_, _%_, _^_, _≤_}
+use Prim.Native.Nat.{ℕ, _+_, _*_, _/_, _%_, _^_, _≤_, _<_}
 use mathlib.Core.Path.{_≡_}
 use mathlib.Core.Bool.{true, false}
 use mathlib.Core.List.{List, [], _∷_}
 use lib.ListN.{length, getD}
 use lib.IntN.{ℤ, pos}
 use denote.Ref.{now}
+use Rattle.std.specs.declared.option.Option.{Option}
 use Rattle.std.specs.Numbers.{minZ}
-use Rattle.margin.specs.Book.{Cards, nettedFamily, windowOf}
+use Rattle.margin.specs.Book.{Cards, named, month, nettedFamily, windowOf}
 use Rattle.margin.specs.Cells.{gridded}
 use Rattle.margin.specs.Layers.{basketResult, worstWithin, familyWorst}
+use Rattle.margin.specs.HandedOut.{upTo, familyPoint, basketPoint, monthKept}
+use Rattle.margin.specs.declared.choice.Kept.{Kept}
 use Rattle.layers.specs.Rows.{Holds}
 use Rattle.layers.specs.declared.scene.Scene.{Scene}
 
@@ -42,3 +45,17 @@ basketPart s f p b = elim (nettedFamily (cardsOf s) f) [ true ↦ worstWithin (s
 -- the worst of every family's row that there may be
 abbrev pub worstsOf : Scene → List (ℤ × ℕ)
 worstsOf s = familyWorst (s .last) (cardsOf s) (cellsOf s) 0 ∷ familyWorst (s .last) (cardsOf s) (cellsOf s) 1 ∷ []
+
+-- ---- the world handed out
+abbrev pub familyChoice : Scene → ℕ → Option ℕ
+familyChoice s = upTo (length (now (s .families))) (familyPoint (s .last) (cardsOf s) (cellsOf s))
+
+abbrev pub basketChoice : Scene → ℕ → Option ℕ
+basketChoice s = upTo (length (now (s .baskets))) (basketPoint (s .last) (cardsOf s) (cellsOf s))
+
+abbrev pub monthChoice : Scene → ℕ → Option Kept
+monthChoice s = upTo (length (now (s .months))) (monthKept (s .last) (cardsOf s) (cellsOf s))
+
+-- each month names one of the baskets that there may be
+abbrev pub NamesBaskets : Scene → Type 0
+NamesBaskets s = (m : ℕ) → m < length (now (s .months)) → named (month (cardsOf s) m .basket) < 4

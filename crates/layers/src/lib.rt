@@ -7,3 +7,4 @@ pub mod part;
 pub mod pick;
 pub mod rows;
 pub mod scene;
+pub mod world;

@@ -22,6 +22,7 @@ impl<'a> Scene<'a> {
         requires { ⌜ Fits (now self) ⌝ }
         ensures value { λ r. ⌜ r ≡ rateResult (cellsOf (now (self .entry))) m p ⌝ }
         ensures size { λ r. ⌜ natAbs (r .0) ≤ 2 ^ 63 ⌝ }
+        ensures place { λ r. ⌜ r .1 ≤ 2 ⌝ }
     {
         least_of_three(0, self.cell(m, p, 3), self.cell(m, p, 4))
     }
@@ -31,6 +32,7 @@ impl<'a> Scene<'a> {
         requires { ⌜ Fits (now self) ⌝ }
         ensures value { λ r. ⌜ r ≡ twistResult (cellsOf (now (self .entry))) m p ⌝ }
         ensures size { λ r. ⌜ natAbs (r .0) ≤ 2 ^ 63 ⌝ }
+        ensures place { λ r. ⌜ r .1 ≤ 2 ⌝ }
     {
         least_of_three(0, self.cell(m, p, 5), self.cell(m, p, 6))
     }

@@ -13,6 +13,7 @@ use order::least;
 pub fn least_of_three(a: i128, b: i128, c: i128) -> (i128, usize)
     ensures value { λ r. ⌜ r ≡ least3 a b c ⌝ }
     ensures size { λ r. ⌜ ((n : ℕ) → natAbs a ≤ n → natAbs b ≤ n → natAbs c ≤ n → natAbs (r .0) ≤ n) ⌝ }
+    ensures place { λ r. ⌜ r .1 ≤ 2 ⌝ }
 {
     match least(&[a, b, c]) {
         Some(found) => found,

@@ -5,7 +5,7 @@ use mir.Val.{SFits}
 use borrow.Author.Needs.{needs}
 use Rattle.std.proofs.shelf.Signed.{toZ-ofZ}
 use Rattle.margin.specs.Sums.{least3}
-use Rattle.layers.proofs.Picks.{three, three-size}
+use Rattle.layers.proofs.Picks.{three, three-size, three-place}
 use Rattle.layers.proofs.pick.least_of_three.Needs as need
 
 pub returns-in-Some : need.returns-in-Some
@@ -16,4 +16,4 @@ returns-in-Some c =
     let found = simp toZ-ofZ at (c .least .ensures .value) in
     let e = three (c .args .a) (c .args .b) (c .args .c) in
     let is : c .in-Some .found ≡ least3 (c .args .a) (c .args .b) (c .args .c) = cc in
-    record { value = is; size = λ n ha hb hc. rw is (three-size (c .args .a) (c .args .b) (c .args .c) n ha hb hc) }
+    record { value = is; size = λ n ha hb hc. rw is (three-size (c .args .a) (c .args .b) (c .args .c) n ha hb hc); place = rw is (three-place (c .args .a) (c .args .b) (c .args .c)) }

@@ -14,4 +14,4 @@ returns c =
     let fits-2 : SFits w128 (c .cell-2 .result) = search needs in
     let found = simp toZ-ofZ at (c .least-of-three .ensures .value) in
     let sized = simp toZ-ofZ at (c .least-of-three .ensures .size) in
-    record { value = cc found; size = sized _ zero-le (c .cell .ensures .size) (c .cell-2 .ensures .size) }
+    record { value = cc found; size = sized _ zero-le (c .cell .ensures .size) (c .cell-2 .ensures .size); place = c .least-of-three .ensures .place }
