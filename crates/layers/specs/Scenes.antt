@@ -4,7 +4,7 @@ use mathlib.Core.Path.{_≡_}
 use mathlib.Core.Bool.{true, false}
 use mathlib.Core.List.{List, [], _∷_}
 use lib.ListN.{length, getD}
-use lib.IntN.{ℤ, pos}
+use lib.IntN.{ℤ, pos, natAbs}
 use denote.Ref.{now}
 use Rattle.std.specs.declared.option.Option.{Option}
 use Rattle.std.specs.Numbers.{minZ}
@@ -26,17 +26,18 @@ placeOf m point column = (m * 17 + point) * 7 + column
 unfoldable pub cellsOf : Scene → ℕ → ℕ → ℕ → ℤ
 cellsOf s = gridded (s .last) (length (now (s .months))) (λ m point column. getD (now (s .cells)) (placeOf m point column) (pos 0))
 
--- as many cards as an account may have, and a table with room for their cells
+-- as many cards as an account may have, and a table with room for their cells, none of which is larger than the bound
 pub record Fits (s : Scene) : Type 0 where
   pub few-families : length (now (s .families)) ≤ 2
   pub few-baskets : length (now (s .baskets)) ≤ 4
   pub few-months : length (now (s .months)) ≤ 8
   pub few-points : s .last ≤ 16
   pub room : length (now (s .cells)) ≡ 952
+  pub bounded : (i : ℕ) → natAbs (getD (now (s .cells)) i (pos 0)) ≤ 2 ^ 70
 
 -- a list that holds the results of every basket at 17 points
 abbrev pub HoldsBaskets : Scene → List ℤ → Type 0
-HoldsBaskets s rows = Holds (λ i. basketResult (cardsOf s) (cellsOf s) (i / 17) (i % 17)) (2 ^ 69) 68 68 rows
+HoldsBaskets s rows = Holds (λ i. basketResult (cardsOf s) (cellsOf s) (i / 17) (i % 17)) (2 ^ 76) 68 68 rows
 
 -- what a basket gives to its family at a point
 abbrev pub basketPart : Scene → ℕ → ℕ → ℕ → ℤ

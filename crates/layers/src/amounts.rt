@@ -14,9 +14,9 @@ use order::least;
 
 // Minus a result, or 0 if that is greater.
 pub fn loss_of(result: i128) -> u128
-    requires { ⌜ natAbs result ≤ 2 ^ 71 ⌝ }
+    requires { ⌜ natAbs result ≤ 2 ^ 78 ⌝ }
     ensures value { λ r. ⌜ r ≡ lossOfResult result ⌝ }
-    ensures size { λ r. ⌜ r ≤ 2 ^ 71 ⌝ }
+    ensures size { λ r. ⌜ r ≤ 2 ^ 78 ⌝ }
 {
     if result < 0 { result.unsigned_abs() } else { 0 }
 }
@@ -25,7 +25,7 @@ impl<'a> Scene<'a> {
     fn family_row(&self, rows: &[i128], f: usize) -> [i128; 17]
         requires fits { ⌜ Fits (now self) ⌝ }
         requires held { ⌜ HoldsBaskets (now self) (now rows) ⌝ }
-        ensures { λ r. ⌜ Holds (familyResult (now (self .entry) .last) (cardsOf (now (self .entry))) (cellsOf (now (self .entry))) f) (2 ^ 71) 17 (now (self .entry) .last + 1) r ⌝ }
+        ensures { λ r. ⌜ Holds (familyResult (now (self .entry) .last) (cardsOf (now (self .entry))) (cellsOf (now (self .entry))) f) (2 ^ 78) 17 (now (self .entry) .last + 1) r ⌝ }
     {
         let mut row = [0; 17];
         for p in 0..self.last + 1 {
@@ -39,7 +39,7 @@ impl<'a> Scene<'a> {
         requires fits { ⌜ Fits (now self) ⌝ }
         requires held { ⌜ HoldsBaskets (now self) (now rows) ⌝ }
         ensures value { λ r. ⌜ r ≡ familyWorst (now (self .entry) .last) (cardsOf (now (self .entry))) (cellsOf (now (self .entry))) f ⌝ }
-        ensures size { λ r. ⌜ natAbs (r .0) ≤ 2 ^ 71 ⌝ }
+        ensures size { λ r. ⌜ natAbs (r .0) ≤ 2 ^ 78 ⌝ }
     {
         let row = self.family_row(rows, f);
         least_between(&row, 0, 0, self.last)
@@ -50,7 +50,7 @@ impl<'a> Scene<'a> {
         requires fits { ⌜ Fits (now self) ⌝ }
         requires held { ⌜ HoldsBaskets (now self) (now rows) ⌝ }
         ensures value { λ r. ⌜ r ≡ worstsOf (now (self .entry)) ⌝ }
-        ensures size { λ r. ⌜ ((f : ℕ) → natAbs (getD r f (pos 0, 0) .0) ≤ 2 ^ 71) ⌝ }
+        ensures size { λ r. ⌜ ((f : ℕ) → natAbs (getD r f (pos 0, 0) .0) ≤ 2 ^ 78) ⌝ }
     {
         [self.family_worst(rows, 0), self.family_worst(rows, 1)]
     }
@@ -59,9 +59,9 @@ impl<'a> Scene<'a> {
     pub fn grains(&self, worsts: &[(i128, usize)]) -> u128
         requires fits { ⌜ Fits (now self) ⌝ }
         requires held { ⌜ now worsts ≡ worstsOf (now self) ⌝ }
-        requires size { ⌜ ((f : ℕ) → natAbs (getD (now worsts) f (pos 0, 0) .0) ≤ 2 ^ 71) ⌝ }
+        requires size { ⌜ ((f : ℕ) → natAbs (getD (now worsts) f (pos 0, 0) .0) ≤ 2 ^ 78) ⌝ }
         ensures value { λ r. ⌜ r ≡ lossInGrains (now (self .entry) .last) (cardsOf (now (self .entry))) (cellsOf (now (self .entry))) ⌝ }
-        ensures size { λ r. ⌜ r ≤ 2 ^ 72 ⌝ }
+        ensures size { λ r. ⌜ r ≤ 2 ^ 79 ⌝ }
     {
         let mut sum = 0;
         for f in 0..self.families.len() {
@@ -74,7 +74,7 @@ impl<'a> Scene<'a> {
     pub fn margin(&self, worsts: &[(i128, usize)]) -> u64
         requires fits { ⌜ Fits (now self) ⌝ }
         requires held { ⌜ now worsts ≡ worstsOf (now self) ⌝ }
-        requires size { ⌜ ((f : ℕ) → natAbs (getD (now worsts) f (pos 0, 0) .0) ≤ 2 ^ 71) ⌝ }
+        requires size { ⌜ ((f : ℕ) → natAbs (getD (now worsts) f (pos 0, 0) .0) ≤ 2 ^ 78) ⌝ }
         ensures { λ r. ⌜ r ≡ marginOf (now (self .entry) .last) (cardsOf (now (self .entry))) (cellsOf (now (self .entry))) ⌝ }
     {
         ((self.grains(worsts) + 79_999) / 80_000) as u64
@@ -84,7 +84,7 @@ impl<'a> Scene<'a> {
     pub fn costliest(&self, worsts: &[(i128, usize)]) -> usize
         requires fits { ⌜ Fits (now self) ⌝ }
         requires held { ⌜ now worsts ≡ worstsOf (now self) ⌝ }
-        requires size { ⌜ ((f : ℕ) → natAbs (getD (now worsts) f (pos 0, 0) .0) ≤ 2 ^ 71) ⌝ }
+        requires size { ⌜ ((f : ℕ) → natAbs (getD (now worsts) f (pos 0, 0) .0) ≤ 2 ^ 78) ⌝ }
         ensures { λ r. ⌜ r ≡ costliestOf (now (self .entry) .last) (cardsOf (now (self .entry))) (cellsOf (now (self .entry))) ⌝ }
     {
         let first = FamilyLoss {

@@ -32,7 +32,7 @@ impl<'a> Scene<'a> {
     fn part(&self, part: Part, m: usize, p: usize) -> i128
         requires { ⌜ Fits (now self) ⌝ }
         ensures value { λ r. ⌜ r ≡ partOf part (cellsOf (now (self .entry))) m p ⌝ }
-        ensures size { λ r. ⌜ natAbs r ≤ 2 ^ 65 ⌝ }
+        ensures size { λ r. ⌜ natAbs r ≤ 2 ^ 72 ⌝ }
     {
         match part {
             Part::Column(k) => self.cell(m, p, k),
@@ -46,7 +46,7 @@ impl<'a> Scene<'a> {
         requires fits { ⌜ Fits (now self) ⌝ }
         requires month { ⌜ m < length (now (now self .months)) ⌝ }
         ensures value { λ r. ⌜ r ≡ elim (inBasket (cardsOf (now (self .entry))) b m) [ true ↦ partOf part (cellsOf (now (self .entry))) m p | false ↦ pos 0 ] ⌝ }
-        ensures size { λ r. ⌜ natAbs r ≤ 2 ^ 65 ⌝ }
+        ensures size { λ r. ⌜ natAbs r ≤ 2 ^ 72 ⌝ }
     {
         if self.in_basket(b, m) {
             self.part(part, m, p)
@@ -59,7 +59,7 @@ impl<'a> Scene<'a> {
     pub fn over_months(&self, b: usize, part: Part, p: usize) -> i128
         requires { ⌜ Fits (now self) ⌝ }
         ensures value { λ r. ⌜ r ≡ overMonths (cardsOf (now (self .entry))) b (λ m. partOf part (cellsOf (now (self .entry))) m p) ⌝ }
-        ensures size { λ r. ⌜ natAbs r ≤ 2 ^ 68 ⌝ }
+        ensures size { λ r. ⌜ natAbs r ≤ 2 ^ 75 ⌝ }
     {
         let mut sum = 0;
         for m in 0..self.months.len() {
@@ -72,7 +72,7 @@ impl<'a> Scene<'a> {
     pub fn netted_column(&self, b: usize, p: usize) -> (i128, usize)
         requires { ⌜ Fits (now self) ⌝ }
         ensures value { λ r. ⌜ r ≡ nettedColumn (cardsOf (now (self .entry))) (cellsOf (now (self .entry))) b p ⌝ }
-        ensures size { λ r. ⌜ natAbs (r .0) ≤ 2 ^ 68 ⌝ }
+        ensures size { λ r. ⌜ natAbs (r .0) ≤ 2 ^ 75 ⌝ }
     {
         let first = self.over_months(b, Part::Column(0), p);
         let second = self.over_months(b, Part::Column(1), p);
@@ -83,7 +83,7 @@ impl<'a> Scene<'a> {
     fn netted_basket_result(&self, b: usize, p: usize) -> i128
         requires { ⌜ Fits (now self) ⌝ }
         ensures value { λ r. ⌜ r ≡ nettedBasketResult (cardsOf (now (self .entry))) (cellsOf (now (self .entry))) b p ⌝ }
-        ensures size { λ r. ⌜ natAbs r ≤ 2 ^ 69 ⌝ }
+        ensures size { λ r. ⌜ natAbs r ≤ 2 ^ 76 ⌝ }
     {
         self.netted_column(b, p).0 + self.over_months(b, Part::Curves, p)
     }
@@ -91,7 +91,7 @@ impl<'a> Scene<'a> {
     fn half_basket_result(&self, b: usize, p: usize) -> i128
         requires { ⌜ Fits (now self) ⌝ }
         ensures value { λ r. ⌜ r ≡ halfBasketResult (cardsOf (now (self .entry))) (cellsOf (now (self .entry))) b p ⌝ }
-        ensures size { λ r. ⌜ natAbs r ≤ 2 ^ 68 ⌝ }
+        ensures size { λ r. ⌜ natAbs r ≤ 2 ^ 75 ⌝ }
     {
         self.over_months(b, Part::Losses, p)
     }
@@ -109,7 +109,7 @@ impl<'a> Scene<'a> {
     pub fn basket_result(&self, b: usize, p: usize) -> i128
         requires { ⌜ Fits (now self) ⌝ }
         ensures value { λ r. ⌜ r ≡ basketResult (cardsOf (now (self .entry))) (cellsOf (now (self .entry))) b p ⌝ }
-        ensures size { λ r. ⌜ natAbs r ≤ 2 ^ 69 ⌝ }
+        ensures size { λ r. ⌜ natAbs r ≤ 2 ^ 76 ⌝ }
     {
         if self.is_netted_basket(b) {
             self.netted_basket_result(b, p)

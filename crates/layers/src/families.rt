@@ -55,7 +55,7 @@ impl<'a> Scene<'a> {
         requires basket { ⌜ b < 4 ⌝ }
         requires point { ⌜ p ≤ now self .last ⌝ }
         ensures value { λ r. ⌜ r ≡ worstWithin (now (self .entry) .last) (cardsOf (now (self .entry))) (cellsOf (now (self .entry))) w b p ⌝ }
-        ensures size { λ r. ⌜ natAbs (r .0) ≤ 2 ^ 69 ⌝ }
+        ensures size { λ r. ⌜ natAbs (r .0) ≤ 2 ^ 76 ⌝ }
     {
         let start = p - w.min(p);
         let end = (p + w.min(16)).min(self.last);
@@ -69,7 +69,7 @@ impl<'a> Scene<'a> {
         requires basket { ⌜ b < 4 ⌝ }
         requires point { ⌜ p ≤ now self .last ⌝ }
         ensures value { λ r. ⌜ r ≡ basketPart (now (self .entry)) f p b ⌝ }
-        ensures size { λ r. ⌜ natAbs r ≤ 2 ^ 69 ⌝ }
+        ensures size { λ r. ⌜ natAbs r ≤ 2 ^ 76 ⌝ }
     {
         if self.is_netted_family(f) {
             self.worst_within(rows, self.window(f), b, p).0
@@ -85,7 +85,7 @@ impl<'a> Scene<'a> {
         requires basket { ⌜ b < length (now (now self .baskets)) ⌝ }
         requires point { ⌜ p ≤ now self .last ⌝ }
         ensures value { λ r. ⌜ r ≡ elim (inFamily (cardsOf (now (self .entry))) f b) [ true ↦ basketPart (now (self .entry)) f p b | false ↦ pos 0 ] ⌝ }
-        ensures size { λ r. ⌜ natAbs r ≤ 2 ^ 69 ⌝ }
+        ensures size { λ r. ⌜ natAbs r ≤ 2 ^ 76 ⌝ }
     {
         if self.in_family(f, b) {
             self.basket_part(rows, f, p, b)
@@ -99,7 +99,7 @@ impl<'a> Scene<'a> {
         requires held { ⌜ HoldsBaskets (now self) (now rows) ⌝ }
         requires point { ⌜ p ≤ now self .last ⌝ }
         ensures value { λ r. ⌜ r ≡ familyResult (now (self .entry) .last) (cardsOf (now (self .entry))) (cellsOf (now (self .entry))) f p ⌝ }
-        ensures size { λ r. ⌜ natAbs r ≤ 2 ^ 71 ⌝ }
+        ensures size { λ r. ⌜ natAbs r ≤ 2 ^ 78 ⌝ }
     {
         let mut sum = 0;
         for b in 0..self.baskets.len() {

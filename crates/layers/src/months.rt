@@ -12,7 +12,7 @@ impl<'a> Scene<'a> {
     pub fn volatility_result(&self, m: usize, p: usize) -> (i128, usize)
         requires { ⌜ Fits (now self) ⌝ }
         ensures value { λ r. ⌜ r ≡ volatilityResult (cellsOf (now (self .entry))) m p ⌝ }
-        ensures size { λ r. ⌜ natAbs (r .0) ≤ 2 ^ 63 ⌝ }
+        ensures size { λ r. ⌜ natAbs (r .0) ≤ 2 ^ 70 ⌝ }
     {
         least_of_three(self.cell(m, p, 0), self.cell(m, p, 1), self.cell(m, p, 2))
     }
@@ -21,7 +21,7 @@ impl<'a> Scene<'a> {
     pub fn rate_result(&self, m: usize, p: usize) -> (i128, usize)
         requires { ⌜ Fits (now self) ⌝ }
         ensures value { λ r. ⌜ r ≡ rateResult (cellsOf (now (self .entry))) m p ⌝ }
-        ensures size { λ r. ⌜ natAbs (r .0) ≤ 2 ^ 63 ⌝ }
+        ensures size { λ r. ⌜ natAbs (r .0) ≤ 2 ^ 70 ⌝ }
         ensures place { λ r. ⌜ r .1 ≤ 2 ⌝ }
     {
         least_of_three(0, self.cell(m, p, 3), self.cell(m, p, 4))
@@ -31,7 +31,7 @@ impl<'a> Scene<'a> {
     pub fn twist_result(&self, m: usize, p: usize) -> (i128, usize)
         requires { ⌜ Fits (now self) ⌝ }
         ensures value { λ r. ⌜ r ≡ twistResult (cellsOf (now (self .entry))) m p ⌝ }
-        ensures size { λ r. ⌜ natAbs (r .0) ≤ 2 ^ 63 ⌝ }
+        ensures size { λ r. ⌜ natAbs (r .0) ≤ 2 ^ 70 ⌝ }
         ensures place { λ r. ⌜ r .1 ≤ 2 ⌝ }
     {
         least_of_three(0, self.cell(m, p, 5), self.cell(m, p, 6))
@@ -40,7 +40,7 @@ impl<'a> Scene<'a> {
     pub fn curve_result(&self, m: usize, p: usize) -> i128
         requires { ⌜ Fits (now self) ⌝ }
         ensures value { λ r. ⌜ r ≡ curveResult (cellsOf (now (self .entry))) m p ⌝ }
-        ensures size { λ r. ⌜ natAbs r ≤ 2 ^ 64 ⌝ }
+        ensures size { λ r. ⌜ natAbs r ≤ 2 ^ 71 ⌝ }
     {
         self.rate_result(m, p).0 + self.twist_result(m, p).0
     }
@@ -48,7 +48,7 @@ impl<'a> Scene<'a> {
     pub fn month_result(&self, m: usize, p: usize) -> i128
         requires { ⌜ Fits (now self) ⌝ }
         ensures value { λ r. ⌜ r ≡ monthResult (cellsOf (now (self .entry))) m p ⌝ }
-        ensures size { λ r. ⌜ natAbs r ≤ 2 ^ 65 ⌝ }
+        ensures size { λ r. ⌜ natAbs r ≤ 2 ^ 72 ⌝ }
     {
         self.volatility_result(m, p).0 + self.curve_result(m, p)
     }

@@ -18,7 +18,7 @@ pub struct Scene<'a> {
     pub lines: &'a [Line],
     pub futures: usize,
     // for each month, 17 points of seven cells
-    pub cells: &'a [i64],
+    pub cells: &'a [i128],
     // the grid's last point
     pub last: usize,
 }
@@ -37,10 +37,10 @@ impl<'a> Scene<'a> {
     pub fn cell(&self, m: usize, p: usize, k: usize) -> i128
         requires { ⌜ Fits (now self) ⌝ }
         ensures value { λ r. ⌜ r ≡ cellsOf (now (self .entry)) m p k ⌝ }
-        ensures size { λ r. ⌜ natAbs r ≤ 2 ^ 63 ⌝ }
+        ensures size { λ r. ⌜ natAbs r ≤ 2 ^ 70 ⌝ }
     {
         if m < self.months.len() && p <= self.last && k < 7 {
-            i128::from(self.cells[place(m, p, k)])
+            self.cells[place(m, p, k)]
         } else {
             0
         }

@@ -4,7 +4,7 @@ use native.Mathlib.Omega.{arith}
 use lib.Dec.{lit≤}
 use lib.IntN.{ℤ, pos, natAbs}
 use lib.ListN.{length, getD}
-use mir.Syntax.{w64, w128}
+use mir.Syntax.{w128}
 use mir.Val.{SFits, toZ, ofZ}
 use borrow.Author.Needs.{needs}
 use Rattle.std.proofs.shelf.Signed.{ints, toZ-ofZ}
@@ -13,20 +13,16 @@ use Rattle.layers.proofs.Grids.{on-grid, off-grid}
 use Rattle.layers.proofs.scene.Scene.cell.Needs as need
 use Rattle.layers.proofs.scene.Scene.cell.Needs.{else-m-self·by·then-m-self·then-p-self·else-k-lt7, else-m-self·by·then-m-self·else-p-self, else-m-self·by·else-m-self}
 
-sized : (z r : ℤ) → SFits w64 z → r ≡ z → natAbs r ≤ 9223372036854775808
-sized z r f e = omega (arith, ints)
-
 pub returns-then-k-lt7 : need.returns-then-k-lt7
 unfolding cellsOf
 returns-then-k-lt7 c =
     let cells = c .args .self .now .cells .now in
-    let fits : SFits w64 (getD cells (c .place .result) (pos 0)) = search needs in
-    let wide : SFits w128 (c .from .result) = search needs in
-    let is : toZ w128 (ofZ w128 (c .from .result)) ≡ getD cells (c .place .result) (pos 0) = toZ-ofZ w128 _ wide ∙ c .from .ensures ∙ toZ-ofZ w64 _ fits in
+    let fits : SFits w128 (getD cells (c .place .result) (pos 0)) = search needs in
+    let is : toZ w128 (ofZ w128 (getD cells (c .place .result) (pos 0))) ≡ getD cells (c .place .result) (pos 0) = toZ-ofZ w128 _ fits in
     record {
       value = is ∙ ap (λ (n : ℕ). getD cells n (pos 0)) (c .place .ensures .value)
           ∙ sym (on-grid _ _ (λ m p k. getD cells (placeOf m p k) (pos 0)) (c .args .m) (c .args .p) (c .args .k) (omega arith) (omega arith) (omega arith));
-      size = sized _ _ fits is;
+      size = rw is (c .pre .bounded (c .place .result));
     }
 
 pub returns-else-m-self : need.returns-else-m-self

@@ -10,5 +10,5 @@ unfolding curveResult
 returns c =
     let rate = c .rate-result .ensures in
     let twist = c .twist-result .ensures in
-    let sum = added _ _ _ _ (2 ^ 63) (2 ^ 63) (lit≤ tt) (lit≤ tt) (rate .size) (twist .size) (ap (λ r. r .0) (rate .value)) (ap (λ r. r .0) (twist .value)) in
+    let sum = added _ _ _ _ (2 ^ 70) (2 ^ 70) (lit≤ tt) (lit≤ tt) (rate .size) (twist .size) (ap (λ r. r .0) (rate .value)) (ap (λ r. r .0) (twist .value)) in
     record { value = sum .value; size = sum .size-is }

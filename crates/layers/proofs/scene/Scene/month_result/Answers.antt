@@ -11,5 +11,5 @@ unfolding monthResult
 returns c =
     let volatility = c .volatility-result .ensures in
     let curve = c .curve-result .ensures in
-    let sum = added _ _ _ _ (2 ^ 63) (2 ^ 64) (lit≤ tt) (lit≤ tt) (volatility .size) (curve .size) (ap (λ r. r .0) (volatility .value)) (curve .value) in
+    let sum = added _ _ _ _ (2 ^ 70) (2 ^ 71) (lit≤ tt) (lit≤ tt) (volatility .size) (curve .size) (ap (λ r. r .0) (volatility .value)) (curve .value) in
     record { value = sum .value; size = le-trans (sum .size-is) (lit≤ tt) }

@@ -10,5 +10,5 @@ unfolding nettedBasketResult
 returns c =
     let column = c .netted-column .ensures in
     let curves = c .over-months .ensures in
-    let sum = added _ _ _ _ (2 ^ 68) (2 ^ 68) (lit≤ tt) (lit≤ tt) (column .size) (curves .size) (ap (λ r. r .0) (column .value)) (curves .value) in
+    let sum = added _ _ _ _ (2 ^ 75) (2 ^ 75) (lit≤ tt) (lit≤ tt) (column .size) (curves .size) (ap (λ r. r .0) (column .value)) (curves .value) in
     record { value = sum .value; size = sum .size-is }
