@@ -12,10 +12,13 @@ loop-place-again g c =
 pub returns : need.returns
 returns g c =
     let test = g .J·Judge .admits (c .args .judge .now) in
-    sym (c .loop-place .inv ∙ failing-ends test (c .args .items .now) (c .loop-place .place) (c .loop-place-test .left))
+    record { value = sym (c .loop-place .inv ∙ failing-ends test (c .args .items .now) (c .loop-place .place) (c .loop-place-test .left)); inside = tt }
 
 pub returns-then-fails : need.returns-then-fails
 returns-then-fails g c =
     let test = g .J·Judge .admits (c .args .judge .now) in
-    sym (c .loop-place .inv
-    ∙ failing-stops test (c .args .items .now) (c .loop-place .place) (c .index-items-place .result) (c .loop-place-test .taken) (ap (test (c .loop-place .place)) (sym (c .index-items-place .is)) ∙ not-true _ (sym (c .if-fails .ensures tt))))
+    let fails = ap (test (c .loop-place .place)) (sym (c .index-items-place .is)) ∙ not-true _ (sym (c .if-fails .ensures tt)) in
+    record {
+      value = sym (c .loop-place .inv ∙ failing-stops test (c .args .items .now) (c .loop-place .place) (c .index-items-place .result) (c .loop-place-test .taken) fails);
+      inside = c .loop-place-test .taken;
+    }
