@@ -4,5 +4,6 @@ pub mod Losses
 pub mod Names
 pub mod Picks
 pub mod Sizes
+pub mod Tables
 pub mod Taking
 pub mod Windows

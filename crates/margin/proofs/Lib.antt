@@ -4,4 +4,7 @@ pub mod ByRule
 pub mod Below
 pub mod Reached
 pub mod Orders
+pub mod Products
+pub mod Fills
+pub mod Easier
 pub mod Cover

@@ -5,4 +5,5 @@ pub mod Layers
 pub mod Worlds
 pub mod HandedOut
 pub mod LeastCover
+pub mod Easing
 pub mod Figures
