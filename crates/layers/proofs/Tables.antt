@@ -1,16 +1,23 @@
--- A table that holds a book's cells stands for them. Assumes nothing.
+-- A table that holds a book's cells stands for them, and lists that hold the choices handed out stand for the world. Assumes nothing.
 use Prim.Native.Nat.{ℕ, _≤_, _<_}
 use mathlib.Core.Path.{_≡_, refl, fun-ext, _∙_}
 use mathlib.Core.Bool.{Bool, true, false, _&&_}
+use mathlib.Core.List.{List}
 use lib.Dec.{leb, ltb}
 use lib.IntN.{ℤ, pos}
 use lib.ListN.{length, getD}
 use denote.Ref.{now}
+use Rattle.std.specs.declared.option.Option.{Option}
 use Rattle.std.specs.Numbers.{minZ}
 use Rattle.std.proofs.shelf.Tests.{leb-true, ltb-true, and-parts}
 use Rattle.margin.specs.Book.{Book, overLines}
 use Rattle.margin.specs.Cells.{gridded, lineCell, monthCell, cells}
-use Rattle.layers.specs.Scenes.{cardsOf, cellsOf, placeOf}
+use Rattle.margin.specs.HandedOut.{choices}
+use Rattle.margin.specs.Worlds.{World, worldOf}
+use Rattle.margin.specs.declared.choice.Counted.{Counted}
+use Rattle.margin.specs.declared.choice.Kept.{Kept}
+use Rattle.layers.specs.Rows.{Lists}
+use Rattle.layers.specs.Scenes.{cardsOf, cellsOf, placeOf, familyChoice, basketChoice, monthChoice}
 use Rattle.layers.specs.declared.scene.Scene.{Scene}
 
 -- two grids of cells are one where they agree on the grid
@@ -29,3 +36,8 @@ same-grid last months f g agree = fun-ext (λ m. fun-ext (λ p. fun-ext (λ k. b
 pub table-of : (s : Scene) (price : ℕ → ℕ → ℕ → ℤ) (book : Book) → ((m p k : ℕ) → m < length (now (s .months)) → p ≤ s .last → k < 7 → getD (now (s .cells)) (placeOf m p k) (pos 0) ≡ overLines (cardsOf s) m (λ l. lineCell (s .last) price (cardsOf s) book (λ i r. minZ (pos 0) r) l p k)) → cellsOf s ≡ cells (s .last) price (cardsOf s) book
 unfolding cellsOf cells monthCell
 table-of s price book held = same-grid (s .last) (length (now (s .months))) _ _ held
+
+-- lists that hold the choices handed out are the world of those choices
+pub world-of-lists : (s : Scene) (families baskets : List (Option ℕ)) (months : List (Option Kept)) (orders : ℕ → Counted) → Lists (familyChoice s) families → Lists (basketChoice s) baskets → Lists (monthChoice s) months → worldOf families baskets months orders ≡ choices (s .last) (cardsOf s) (cellsOf s) orders
+unfolding choices
+world-of-lists s families baskets months orders hf hb hm = λ i. record { families = fun-ext hf i; baskets = fun-ext hb i; months = fun-ext hm i; orders = orders }

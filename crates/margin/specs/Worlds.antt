@@ -1,10 +1,11 @@
 -- Worlds: what may come about in one session, choice by choice, and what a book loses in each. Nothing here speaks of a least result.
 use Prim.Native.Nat.{ℕ, _+_, _≤_, _<_}
 use mathlib.Core.Path.{_≡_}
+use mathlib.Core.List.{List}
 use mathlib.Core.Logic.{_⊎_}
 use mathlib.Core.Bool.{Bool, true, false}
 use lib.Dec.{leb}
-use lib.ListN.{length}
+use lib.ListN.{length, getD}
 use lib.IntN.{ℤ, pos, negℤ, _+ℤ_}
 use Rattle.std.specs.declared.option.Option.{Option}
 use Rattle.std.specs.declared.option.Option.the-variants.{Some, None}
@@ -23,6 +24,10 @@ pub record World : Type 0 where
   pub months : ℕ → Option Kept
   -- the cells in which each open order is counted
   pub orders : ℕ → Counted
+
+-- a world whose choices stand in lists; nothing is taken beyond their ends
+abbrev pub worldOf : List (Option ℕ) → List (Option ℕ) → List (Option Kept) → (ℕ → Counted) → World
+worldOf families baskets months orders = record { families = λ f. getD families f None; baskets = λ b. getD baskets b None; months = λ m. getD months m None; orders = orders }
 
 -- ---- which choices make a world
 -- the points of the grid that lie within w points of p
