@@ -11,15 +11,34 @@ ghost-result c =
     let families = c .in-Continue-families .ensures tt .made in
     let baskets = c .in-Continue-baskets .ensures tt .made in
     let months = c .in-Continue-months .ensures tt .made in
-    let lines = c .in-Continue-lines .ensures tt .made in
-    (omega (arith, f .some-families),
-    (omega (arith, f .few-families),
-    (omega (arith, f .few-baskets),
-    (omega (arith, f .few-months),
-    (omega (arith, f .some-lines),
-    (omega (arith, f .few-lines),
-    (omega (arith, f .few-futures),
-    ((λ b h. rw (families .1, baskets .0) (f .baskets-named b (omega (arith, baskets .1)))),
-    ((λ m h. rw (baskets .1, months .0) (f .months-named m (omega (arith, months .1)))),
-    ((λ l h. rw (months .1, lines .0) (f .lines-named l (omega (arith, lines .1)))),
-    ((λ l h. rw (lines .0) (f .futures-fit l h)), tt)))))))))))
+    let lines = c .in-Continue-lines .ensures tt .made in (
+      omega (arith, f .some-families),
+      (
+        omega (arith, f .few-families),
+        (
+          omega (arith, f .few-baskets),
+          (
+            omega (arith, f .few-months),
+            (
+              omega (arith, f .some-lines),
+              (
+                omega (arith, f .few-lines),
+                (
+                  omega (arith, f .few-futures),
+                  (
+                    (λ b h. rw (families .1, baskets .0) (f .baskets-named b (omega (arith, baskets .1)))),
+                    (
+                      (λ m h. rw (baskets .1, months .0) (f .months-named m (omega (arith, months .1)))),
+                      (
+                        (λ l h. rw (months .1, lines .0) (f .lines-named l (omega (arith, lines .1)))),
+                        ((λ l h. rw (lines .0) (f .futures-fit l h)), tt),
+                      ),
+                    ),
+                  ),
+                ),
+              ),
+            ),
+          ),
+        ),
+      ),
+    )

@@ -1,0 +1,4 @@
+pub mod Charged
+pub mod Futures
+pub mod Sizes
+pub mod Times

@@ -1,0 +1,4 @@
+pub mod Books
+pub mod Empty
+pub mod Parts
+pub mod Tables
