@@ -1,0 +1,3 @@
+// Examples for the reader of forms.
+#[cfg(test)]
+mod forms;

@@ -1,0 +1,12 @@
+pub mod Digits
+pub mod Fronts
+pub mod Decimal
+pub mod Reading
+pub mod Readback
+pub mod Walks
+pub mod After
+pub mod Printed
+pub mod Parsed
+pub mod Shaped
+pub mod Unique
+pub mod Refused

@@ -1,0 +1,4 @@
+pub mod Numbers
+pub mod Writing
+pub mod Shape
+pub mod Grammar
