@@ -16,6 +16,9 @@ ghost use Rattle.layers.specs.Rows.{Holds};
 ghost use Rattle.cells.specs.Books.{bookOf};
 ghost use Rattle.cells.specs.Tables.{atPlace};
 ghost use Rattle.cover.specs.Grids.{lastOf, tableCells};
+
+pub mod judged;
+
 use banks::bank::Bank;
 use cells::book::Book;
 use cells::desk::Desk;
