@@ -1,5 +1,6 @@
-// Prints the scenario sheet of a book: two futures and an option, and the same option in a contract of twice the size.
-// The futures come from their cards, the option from a table of prices, and the whole is one bank.
+// Prints the scenario sheet of two futures and an option, and of the same option in a contract of twice the size, and what must
+// be blocked for a calendar spread of the futures. The futures come from their cards, the option from a table of prices, and the
+// whole is one bank.
 use banks::bank::Bank;
 use banks::pair::Pair;
 use banks::pair::PairBank;
@@ -9,11 +10,21 @@ use banks::strip::Strip;
 use banks::strip::StripBank;
 use banks::table::Table;
 use banks::table::TableBank;
+use cover::judged::margin_of;
+use deck::deck::Deck;
+use deck::given::Given;
+use margin::book::Open;
+use margin::book::Position;
 use std::error::AnyError;
 use std::io;
+use terms::cards::Basket;
+use terms::cards::Family;
 use terms::cards::Limits;
 use terms::cards::Line;
+use terms::cards::LineDefault;
+use terms::cards::Month;
 use terms::cards::Rates;
+use terms::fault::Fault;
 use terms::refusal::Refusal;
 
 const COLUMNS: [&str; 7] = [
@@ -55,9 +66,12 @@ fn main(rt: LibcRuntime) -> Result<(), AnyError> {
     rt.report(run(&rt))
 }
 
-fn run(rt: &impl Print) -> Result<(), AnyError> {
+fn run(rt: &LibcRuntime) -> Result<(), AnyError> {
     match book(&futures(), &OPTION) {
-        Ok(bank) => sheet(rt, &bank)?,
+        Ok(bank) => {
+            sheet(rt, &bank)?;
+            margin(rt, &bank)?;
+        }
         Err(why) => refused(rt, why)?,
     }
     match too_large(&OPTION) {
@@ -65,6 +79,57 @@ fn run(rt: &impl Print) -> Result<(), AnyError> {
         Err(why) => refused(rt, why)?,
     }
     Ok(())
+}
+
+// What must be blocked for a calendar spread of the two futures with an order to buy one more, over the whole bank.
+fn margin<B: Bank>(rt: &LibcRuntime, bank: &B) -> Result<(), AnyError> {
+    let option = Line {
+        month: 0,
+        ..Line::default()
+    };
+    let [near, far] = futures();
+    let given = Given {
+        families: &[Family { rule: 1, window: 0 }],
+        baskets: &[Basket { family: 0, rule: 1 }],
+        months: &[Month { basket: 0 }, Month { basket: 0 }],
+        lines: &[near, far, option, option],
+        futures: 2,
+    };
+    match Deck::judged(rt.alloc(), &given, &[], bank.lines()) {
+        Ok(deck) => blocked(rt, bank, &deck)?,
+        Err(Fault::Refused(why)) => refused(rt, why)?,
+        Err(Fault::Memory) => rt.println("no memory for the cards")?,
+    }
+    Ok(())
+}
+
+fn blocked<B: Bank>(rt: &impl Print, bank: &B, deck: &Deck) -> io::Result<()> {
+    let positions = [
+        Position {
+            net: 3,
+            cost: 24_000_000_000,
+        },
+        Position {
+            net: -2,
+            cost: -16_240_000_000,
+        },
+    ];
+    let orders = [Open {
+        line: 0,
+        left: 1,
+        limit: 95_000,
+    }];
+    match margin_of(bank, deck, &positions, &orders) {
+        None => rt.println("no account may have such a book"),
+        Some(answer) => {
+            let amount = answer.amount;
+            let (worst, point) = answer.worsts[0];
+            println!(
+                rt,
+                "blocked {amount} kopecks: family 0 comes to {worst} grains at point {point}"
+            )
+        }
+    }
 }
 
 fn futures() -> [Line; 2] {
