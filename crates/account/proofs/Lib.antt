@@ -1,0 +1,13 @@
+pub mod FiguresHold
+pub mod Products
+pub mod OrderSums
+pub mod Fills
+pub mod Eased
+pub mod Events
+pub mod Checked
+pub mod Kept
+pub mod Safe
+pub mod Lines
+pub mod Bounded
+pub mod Places
+pub mod Signs
