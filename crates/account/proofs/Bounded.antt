@@ -1,6 +1,6 @@
 -- Every state that an account comes to from its begin is in bounds. Assumes nothing.
 use Prim.Native.Nat.{ℕ, zero, suc, _+_, _-_, _*_, _≤_, _<_}
-use mathlib.Core.Path.{_≡_, refl, sym, ap, _∙_, subst}
+use mathlib.Core.Path.{_≡_, refl, sym, _∙_, subst}
 use mathlib.Core.Bool.{Bool, true, false, not, _&&_}
 use mathlib.Core.List.{List, [], _∷_, _++_}
 use native.Mathlib.Nat.{le-trans}
@@ -13,14 +13,12 @@ use Rattle.std.specs.Numbers.{maxZ}
 use Rattle.std.specs.shelf.Lists.{All}
 use Rattle.std.specs.declared.option.Option.{Option}
 use Rattle.std.specs.declared.option.Option.the-variants.{Some, None}
-use Rattle.std.specs.declared.result.Result.the-variants.{Ok}
 use Rattle.std.proofs.shelf.Elements.{all-getD, all-from-getD, all-set, all-push, all-weaker}
 use Rattle.std.proofs.shelf.Lists.{length-set, length-replicate, getD-replicate}
 use Rattle.std.proofs.shelf.Signed.{ints, clamps}
-use Rattle.std.proofs.shelf.Tests.{and-parts, leb-true, ltb-true, eqb-true, eqb-false, false≢true, true≢false}
+use Rattle.std.proofs.shelf.Tests.{and-parts, leb-true, ltb-true, eqb-false, false≢true, true≢false}
 use Rattle.terms.specs.Cards.{within}
 use Rattle.terms.specs.declared.cards.Held.{Held}
-use Rattle.terms.specs.declared.refusal.Refusal.{Refusal}
 use Rattle.terms.specs.declared.refusal.Refusal.the-variants.{BadCard, NoSuchLine, BadQuantity, BadPrice, BadAmount, OrdersFull, NetTooLarge, TooManyContracts, NoSuchOrder, MoreThanLeft, WorseThanLimit, CollateralTooLarge}
 use Rattle.banks.specs.Meanings.{Meaning}
 use Rattle.margin.specs.declared.book.Position.{Position}
@@ -39,7 +37,7 @@ use Rattle.account.specs.declared.call.Call.the-variants.{Place, Cancel, Fill,
 use Rattle.account.specs.Account.{State, Answer, StillLeft, bookOf, isOneOf, quantityFits, priceFits, amountFits, mostCollateral, withCollateral, newOrder, placed, filled, cancelled, orderChecks, fillChecks, onOrder, checks, step, run}
 use Rattle.account.specs.Begin.{heldFits, holdsLine, heldFrom, badFamily, badBasket, badMonth, badLine, badHeld, firstBad, heldAt, nothing, putIn, firstState, beginChecks, begin}
 use Rattle.account.specs.Runs.{NoneRefuses}
-use Rattle.account.specs.Bounds.{OrderInBounds, Ascending, LineInBounds, LineIsSmall, InBoundsIsSmall, InBounds, summed, dearest, BoundedAfterAnyCalls}
+use Rattle.account.specs.Bounds.{OrderInBounds, Ascending, LineInBounds, InBoundsIsSmall, InBounds, summed, dearest, BoundedAfterAnyCalls}
 use Rattle.account.proofs.Fills.{one-side}
 use Rattle.account.proofs.Lines.{as-size, cost-size, side-size, in-size, cancel-line, fill-line, place-line}
 use Rattle.account.proofs.Products.{times-pos}

@@ -1,6 +1,6 @@
 -- The laws of calls: checks decide, and a refusal changes nothing. Assumes nothing.
 use Prim.Native.Nat.{ℕ}
-use mathlib.Core.Path.{_≡_, refl, sym, ap, _∙_}
+use mathlib.Core.Path.{_≡_, refl, ap}
 use mathlib.Core.Bool.{Bool, true, false}
 use mathlib.Core.List.{List, [], _∷_}
 use native.Mathlib.Omega.{arith}
@@ -13,8 +13,7 @@ use Rattle.std.proofs.shelf.Tests.{false≢true, true≢false}
 use Rattle.terms.specs.declared.refusal.Refusal.{Refusal}
 use Rattle.terms.specs.Checks.{unless, refusedAt, decided}
 use Rattle.account.specs.declared.call.Call.{Call}
-use Rattle.account.specs.declared.call.Call.the-variants.{Margin}
-use Rattle.account.specs.Account.{State, Answer, Required, requirement, settled, checks, effect, step}
+use Rattle.account.specs.Account.{State, Answer, settled, checks, effect, step}
 use Rattle.account.specs.Begin.{beginChecks, begin}
 use Rattle.account.specs.Runs.{NoneRefuses, FirstRefusal, Judged, CallLaws}
 
@@ -80,7 +79,7 @@ call-laws = record {
   accepted-exactly-if-no-check-refuses = step-judged;
   an-accepted-call-has-its-effect = λ s call h. ap (settled s) (decided-some (checks s call) (effect s call) (step-judged s call .accepted-only-if-none-refuses h));
   a-refused-call-changes-nothing = λ s call. nothing s (decided (checks s call) (effect s call));
-  margin-changes-nothing = λ s. refl;
+  margin-is-answered-and-changes-nothing = λ s. refl;
 }
   where
     nothing : (s : State) (told : Result (State × Answer) Refusal) → isOk (settled s told .1) ≡ false → settled s told .0 ≡ s

@@ -1,13 +1,13 @@
 -- Fills and cancels ease every line: no cell falls by them, and no line may come to more. Assumes nothing.
 use Prim.Native.Nat.{ℕ, _≤_, _<_}
-use mathlib.Core.Path.{_≡_, refl, sym, ap, _∙_, subst}
+use mathlib.Core.Path.{_≡_, refl, sym, ap, subst}
 use mathlib.Core.Bool.{Bool, true, false}
 use mathlib.Core.Logic.{_⊎_, inl, inr}
 use mathlib.Core.List.{List}
 use native.Mathlib.Omega.{arith}
 use lib.Dec.{eqb}
 use lib.ListN.{length, getD, set}
-use lib.IntN.{ℤ, pos, negℤ, natAbs, _+ℤ_, _-ℤ_, _*ℤ_}
+use lib.IntN.{ℤ, pos, negℤ, natAbs, _+ℤ_, _-ℤ_}
 use lib.Signed.{_≤ℤ_, ≤ℤ-refl}
 use Rattle.std.specs.Numbers.{minZ, maxZ}
 use Rattle.std.specs.declared.option.Option.the-variants.{Some}
@@ -16,7 +16,7 @@ use Rattle.std.proofs.shelf.Signed.{ints, clamps}
 use Rattle.std.proofs.shelf.Tests.{eqb-true, eqb-false}
 use Rattle.margin.specs.declared.book.Position.{Position}
 use Rattle.margin.specs.declared.book.Open.{Open}
-use Rattle.margin.specs.Book.{Book, position, order, overOrders}
+use Rattle.margin.specs.Book.{position, order, overOrders}
 use Rattle.margin.specs.Cells.{positionResult, orderResult, buys, sells}
 use Rattle.account.specs.declared.order.Order.{Order}
 use Rattle.account.specs.declared.order.OrderState.{OrderState}

@@ -1,23 +1,21 @@
 -- What every state has that an account comes to from its begin: a position for each line, futures whose rates do not fall, and a margin that the collateral covers. Assumes nothing.
 use Prim.Native.Nat.{ℕ, zero, suc, _+_, _-_, _≤_, _<_}
-use mathlib.Core.Path.{_≡_, refl, sym, ap, _∙_, subst}
-use mathlib.Core.Bool.{Bool, true, false, _&&_}
+use mathlib.Core.Path.{_≡_, refl, _∙_, subst}
+use mathlib.Core.Bool.{Bool, true, false}
 use mathlib.Core.List.{List, [], _∷_}
 use native.Mathlib.Nat.{le-trans}
 use native.Mathlib.Omega.{arith}
-use lib.Dec.{leb}
 use lib.ListN.{length, getD, set, replicate}
 use lib.IntN.{ℤ, pos, natAbs}
-use lib.Signed.{leZ, _≤ℤ_}
+use lib.Signed.{_≤ℤ_}
 use Rattle.std.specs.declared.option.Option.{Option}
 use Rattle.std.specs.declared.option.Option.the-variants.{Some, None}
 use Rattle.std.specs.declared.result.Result.the-variants.{Ok}
 use Rattle.std.proofs.shelf.Lists.{length-set, length-replicate}
 use Rattle.std.proofs.shelf.Tests.{and-parts, leb-true, false≢true}
-use Rattle.terms.specs.Cards.{within, ratesFit, limitsFit, futureFits}
+use Rattle.terms.specs.Cards.{futureFits}
 use Rattle.terms.specs.declared.cards.Line.{Line}
 use Rattle.terms.specs.declared.cards.Held.{Held}
-use Rattle.terms.specs.declared.refusal.Refusal.{Refusal}
 use Rattle.terms.specs.declared.refusal.Refusal.the-variants.{BadCard, BadQuantity, NotCovered, NoSuchOrder, MoreThanLeft, WorseThanLimit}
 use Rattle.banks.specs.Meanings.{Meaning}
 use Rattle.terms.specs.Judging.{failing}
@@ -29,7 +27,7 @@ use Rattle.account.specs.declared.call.Call.{Call}
 use Rattle.account.specs.declared.call.Call.the-variants.{Place, Cancel, Fill, Deposit, Withdraw, Margin}
 use Rattle.account.specs.declared.order.Event.the-variants.{Filled}
 use Rattle.account.specs.Orders.{found, leftAfter}
-use Rattle.account.specs.Account.{State, Answer, lastOf, bookOf, marginOf, isOneOf, quantityFits, priceFits, noWorse, StillLeft, orderChecks, onOrder, checks, effect, fillChecks, step, run, cancelled, filled, placed, withCollateral}
+use Rattle.account.specs.Account.{State, Answer, lastOf, bookOf, marginOf, quantityFits, StillLeft, orderChecks, onOrder, checks, fillChecks, step, run, cancelled, filled, placed, withCollateral}
 use Rattle.account.specs.Begin.{lineFits, orElse, linesFrom, badFamily, badBasket, badMonth, badLine, badHeld, firstBad, heldAt, nothing, putIn, firstState, beginChecks, begin}
 use Rattle.account.specs.Runs.{NoneRefuses, fillOrCancel, OnlyFillsAndCancels}
 use Rattle.account.proofs.Eased.{RatesRise, FuturesRise, margin-eases}

@@ -1,20 +1,19 @@
 -- The bounds of a line through placing, filling and cancelling. Assumes nothing.
-use Prim.Native.Nat.{ℕ, zero, suc, _+_, _*_, _≤_, _<_}
+use Prim.Native.Nat.{ℕ, _+_, _*_, _≤_, _<_}
 use mathlib.Core.Path.{_≡_, refl, sym, ap, _∙_, subst}
 use mathlib.Core.Bool.{Bool, true, false}
 use mathlib.Core.Logic.{_⊎_, inl, inr}
-use mathlib.Core.List.{List, [], _∷_, _++_}
-use native.Mathlib.Nat.{mul-le-mul-left, mul-assoc, mul-comm}
+use native.Mathlib.Nat.{mul-le-mul-left, mul-assoc}
 use native.Mathlib.Omega.{arith}
 use lib.Dec.{eqb}
-use lib.ListN.{length, getD, set}
+use lib.ListN.{length, getD}
 use lib.IntN.{ℤ, pos, negsuc, negℤ, natAbs, _+ℤ_, _-ℤ_, _*ℤ_, +ℤ-idr}
 use lib.Signed.{_≤ℤ_, ≤ℤ-refl}
-use Rattle.std.specs.Numbers.{minZ, maxZ}
+use Rattle.std.specs.Numbers.{maxZ}
 use Rattle.std.proofs.shelf.Signed.{ints, clamps}
 use Rattle.std.specs.declared.option.Option.the-variants.{Some}
 use Rattle.std.proofs.shelf.Lists.{getD-set-same, getD-set-other}
-use Rattle.std.proofs.shelf.Tests.{eqb-true, eqb-false, eq-eqb, and-parts, leb-true}
+use Rattle.std.proofs.shelf.Tests.{eqb-true, eqb-false, eq-eqb, and-parts}
 use Rattle.banks.specs.Soundness.{size-product}
 use Rattle.margin.specs.declared.book.Position.{Position}
 use Rattle.margin.specs.declared.book.Open.{Open}
@@ -22,13 +21,12 @@ use Rattle.margin.specs.Book.{position, named}
 use Rattle.margin.specs.Cells.{buys, sells}
 use Rattle.margin.proofs.SumLaws.{≤ℤ-trans, at-most}
 use Rattle.account.specs.declared.order.Order.{Order}
-use Rattle.account.specs.declared.order.Event.the-variants.{Filled, Cancelled}
-use Rattle.account.specs.Orders.{signed, found, ordersAfter}
+use Rattle.account.specs.declared.order.Event.the-variants.{Filled}
+use Rattle.account.specs.Orders.{signed, found}
 use Rattle.account.specs.Account.{State, bookOf, noWorse, filled, cancelled, placed, newOrder, netFits}
 use Rattle.account.specs.Bounds.{dearest, LineInBounds}
-use Rattle.account.proofs.Products.{times-add, times-neg, times-le, OneSide}
-use Rattle.account.proofs.OrderSums.{ofOne, sumOf, partAfter, sum-more}
-use Rattle.account.proofs.Eased.{Eased}
+use Rattle.account.proofs.Products.{times-add, times-le, OneSide}
+use Rattle.account.proofs.OrderSums.{ofOne, sum-more}
 use Rattle.account.proofs.Events.{sum-off, sum-on, buyPart, sellPart, of-one-high, size-high, buys-are, sells-are, cancel-sum, cancel-eases, fill-part, whole, sides, position-off, position-on, fill-eases}
 
 -- ---- sizes

@@ -5,15 +5,14 @@ use mathlib.Core.Bool.{Bool, true, false}
 use mathlib.Core.List.{List, [], _∷_, _++_, map}
 use native.Mathlib.Omega.{arith}
 use lib.Dec.{eqb}
-use lib.ListN.{length, getD}
+use lib.ListN.{length}
 use lib.IntN.{ℤ, pos, _+ℤ_}
-use Rattle.std.specs.declared.option.Option.{Option}
-use Rattle.std.specs.declared.option.Option.the-variants.{Some, None}
+use Rattle.std.specs.declared.option.Option.the-variants.{Some}
 use Rattle.std.proofs.shelf.Signed.{ints}
 use Rattle.margin.specs.declared.book.Position.{Position}
 use Rattle.margin.specs.declared.book.Open.{Open}
 use Rattle.margin.specs.Sums.{total}
-use Rattle.margin.specs.Book.{Book, names, order, ofLine, overOrders}
+use Rattle.margin.specs.Book.{names, order, ofLine, overOrders}
 use Rattle.account.specs.declared.order.Order.{Order}
 use Rattle.account.specs.declared.order.Event.{Event}
 use Rattle.account.specs.Orders.{orderAfter, isGone, found, kept, ordersAfter}

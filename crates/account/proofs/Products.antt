@@ -1,9 +1,8 @@
 -- Products of integers: they distribute over sums, and follow the rule of signs. Assumes nothing.
-use Prim.Native.Nat.{ℕ, zero, suc}
-use mathlib.Core.Path.{_≡_, refl, sym, ap, _∙_}
+use mathlib.Core.Path.{_≡_, sym, ap, _∙_}
 use mathlib.Core.Logic.{_⊎_, inl, inr}
 use native.Mathlib.Omega.{arith}
-use lib.IntN.{ℤ, pos, negsuc, negℤ, _+ℤ_, _-ℤ_, _*ℤ_, sucℤ, predℤ, ℤ-ind, +ℤ-assoc, +ℤ-idr, +ℤ-invr, +ℤ-one, -ℤ-one, sucℤ-*ℤ, predℤ-*ℤ, zero-*ℤ, *ℤ-comm}
+use lib.IntN.{ℤ, pos, negsuc, negℤ, _+ℤ_, _-ℤ_, _*ℤ_, ℤ-ind, +ℤ-assoc, +ℤ-idr, +ℤ-invr, +ℤ-one, -ℤ-one, sucℤ-*ℤ, predℤ-*ℤ, zero-*ℤ, *ℤ-comm}
 use lib.Signed.{_≤ℤ_}
 use Rattle.std.proofs.shelf.Signed.{ints, by-ltZ}
 

@@ -7,7 +7,6 @@ use lib.IntN.{ℤ, pos, negℤ, natAbs, _-ℤ_}
 use lib.Signed.{leZ}
 use Rattle.std.specs.declared.option.Option.{Option}
 use Rattle.std.specs.declared.option.Option.the-variants.{Some, None}
-use Rattle.margin.specs.declared.book.Open.{Open}
 use Rattle.margin.specs.Book.{names}
 use Rattle.account.specs.declared.order.Order.{Order}
 use Rattle.account.specs.declared.order.OrderState.{OrderState}

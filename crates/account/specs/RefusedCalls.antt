@@ -1,19 +1,17 @@
 -- What calls are told at both sides of each of their bounds, worked out by the definitions on an account of one future.
 use mathlib.Core.Path.{_≡_}
-use mathlib.Core.List.{List, [], _∷_}
-use lib.IntN.{ℤ, pos, negsuc}
+use mathlib.Core.List.{[], _∷_}
+use lib.IntN.{pos, negsuc}
 use lib.ListN.{replicate, drop}
-use Rattle.std.specs.declared.result.Result.{Result}
 use Rattle.std.specs.declared.result.Result.the-variants.{Ok, Err}
 use Rattle.terms.specs.declared.cards.Family.{Family}
 use Rattle.terms.specs.declared.cards.Month.{Month}
 use Rattle.terms.specs.declared.cards.Line.{Line}
-use Rattle.terms.specs.declared.refusal.Refusal.{Refusal}
 use Rattle.terms.specs.declared.refusal.Refusal.the-variants.{BadCard, WrongShape, NoSuchLine, BadQuantity, BadPrice, BadAmount, OrdersFull, NetTooLarge, TooManyContracts, NotCovered, NoSuchOrder, MoreThanLeft, WorseThanLimit, CollateralTooLarge}
 use Rattle.margin.specs.Book.{Cards}
 use Rattle.margin.specs.Figures.{future, nettedFamilyCard, oneFuture}
 use Rattle.account.specs.declared.call.Call.the-variants.{Place, Cancel, Fill, Deposit, Withdraw}
-use Rattle.account.specs.Account.{State, Answer, Numbered, StillLeft, Ended, Collateral}
+use Rattle.account.specs.Account.{Numbered, StillLeft, Ended, Collateral}
 use Rattle.account.specs.Figures.{begun, told, holding, empty, buyAt}
 use Prim.Native.Nat.{ℕ}
 

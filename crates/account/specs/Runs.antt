@@ -17,7 +17,7 @@ use Rattle.margin.specs.Book.{Cards}
 use Rattle.margin.specs.Worlds.{World, IsWorld, loss}
 use Rattle.account.specs.declared.call.Call.{Call}
 use Rattle.account.specs.declared.call.Call.the-variants.{Place, Cancel, Fill, Deposit, Withdraw, Margin}
-use Rattle.account.specs.Account.{State, Answer, Required, Requirement, bookOf, lastOf, requirement, checks, effect, step, run}
+use Rattle.account.specs.Account.{State, Required, Requirement, bookOf, lastOf, requirement, checks, effect, step, run}
 use Rattle.account.specs.Begin.{beginChecks, begin}
 
 -- ---- when calls are accepted
@@ -43,7 +43,7 @@ pub record CallLaws : Type 0 where
   pub accepted-exactly-if-no-check-refuses : (s : State) (call : Call) → Judged (checks s call) (step s call .1)
   pub an-accepted-call-has-its-effect : (s : State) (call : Call) → isOk (step s call .1) ≡ true → step s call ≡ (effect s call .0, Ok (effect s call .1))
   pub a-refused-call-changes-nothing : (s : State) (call : Call) → isOk (step s call .1) ≡ false → step s call .0 ≡ s
-  pub margin-changes-nothing : (s : State) → step s Margin ≡ (s, Ok (Required (requirement s)))
+  pub margin-is-answered-and-changes-nothing : (s : State) → step s Margin ≡ (s, Ok (Required (requirement s)))
 
 -- ---- what holds after any string of calls
 abbrev pub fillOrCancel : Call → Bool
@@ -69,6 +69,10 @@ lossIn s w = loss (lastOf s) (s .bank .price) (s .cards) (bookOf s) w
 abbrev pub CoversEveryWorld : State → ℕ → Type 0
 CoversEveryWorld s amount = (w : World) → WorldOf s w → lossIn s w ≤ℤ pos (80000 * amount)
 
+-- margin answers this, and changes nothing
+abbrev pub Answers : State → Requirement → Type 0
+Answers s answer = step s Margin ≡ (s, Ok (Required answer))
+
 -- an account, and what margin answers there
 pub record SafelyMargined (s : State) (answer : Requirement) : Type 0 where
   pub the-amount-covers-every-world : CoversEveryWorld s (answer .amount)
@@ -76,11 +80,11 @@ pub record SafelyMargined (s : State) (answer : Requirement) : Type 0 where
   pub its-world-is-a-world : WorldOf s (answer .world)
   pub no-world-loses-more : (w : World) → WorldOf s w → lossIn s w ≤ℤ lossIn s (answer .world)
   pub the-collateral-suffices : answer .amount ≤ s .collateral
-  pub fills-and-cancels-never-raise-it : (calls : List Call) → OnlyFillsAndCancels calls → requirement (run s calls) .amount ≤ answer .amount
+  pub fills-and-cancels-never-raise-it : (calls : List Call) → OnlyFillsAndCancels calls → (later : Requirement) → Answers (run s calls) later → later .amount ≤ answer .amount
 
 -- margin is answered, and its answer is safe
 abbrev pub AnswersSafely : State → Type 0
-AnswersSafely s = (answer : Requirement) × (step s Margin ≡ (s, Ok (Required answer))) × SafelyMargined s answer
+AnswersSafely s = (answer : Requirement) × Answers s answer × SafelyMargined s answer
 
 -- for every bank, cards, held records and collateral with which an account begins, and every string of calls since
 abbrev pub SafeAfterAnyCalls : Type 0

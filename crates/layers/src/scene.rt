@@ -3,7 +3,6 @@ ghost use mathlib.Core.Path.{_≡_};
 ghost use Prim.Native.Nat.{_<_, _≤_, _^_};
 ghost use lib.IntN.{natAbs};
 ghost use lib.ListN.{length};
-ghost use Rattle.margin.specs.Book.{inBasket, inFamily};
 ghost use Rattle.layers.specs.Scenes.{Fits, cardsOf, cellsOf, placeOf};
 use terms::cards::Basket;
 use terms::cards::Family;

@@ -4,6 +4,7 @@ ghost use mathlib.Core.Path.{_≡_};
 ghost use Prim.Native.Nat.{_+_, _*_, _<_, _≤_};
 ghost use lib.IntN.{pos};
 ghost use Rattle.banks.specs.Layers.{pairMeaning, scaleMeaning};
+ghost use Rattle.banks.specs.Meanings.{exactly};
 ghost use Rattle.banks.specs.Outcomes.{told};
 ghost use Rattle.banks.specs.Soundness.{bounded-sound};
 ghost use Rattle.ramp.specs.Ramps.{climbing, rampMeaning, pileMade, swingOf};
@@ -52,6 +53,14 @@ pub impl Bank for Ramp as RampBank {
 }
 
 impl Ramp {
+    // A ramp from a start, by ticks. Nothing of its prices is ever cut.
+    pub fn new(half: Half, start: u32, tick: u16) -> Ramp
+        ensures same { λ r. ⌜ r ≡ record { half = half; start = start; tick = tick } ⌝ }
+        ensures means { λ r. ⌜ rampMeaning r ≡ exactly half 1 (start + 16 * tick) (climbing r) ⌝ }
+    {
+        Ramp { half, start, tick }
+    }
+
     // The highest price on the widest grid.
     fn top(&self) -> u64
         ensures { λ r. ⌜ r ≡ now (self .entry) .start + 16 * now (self .entry) .tick ⌝ }
