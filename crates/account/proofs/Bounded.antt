@@ -1,12 +1,12 @@
 -- Every state that an account comes to from its begin is in bounds. Assumes nothing.
 use Prim.Native.Nat.{ℕ, zero, suc, _+_, _-_, _*_, _≤_, _<_}
 use mathlib.Core.Path.{_≡_, refl, sym, _∙_, subst}
-use mathlib.Core.Bool.{Bool, true, false, not, _&&_}
+use mathlib.Core.Bool.{Bool, true, false, _&&_}
 use mathlib.Core.List.{List, [], _∷_, _++_}
 use native.Mathlib.Nat.{le-trans}
 use native.Mathlib.Omega.{arith}
 use lib.Dec.{eqb}
-use lib.ListN.{length, getD, set, take, replicate, length-append}
+use lib.ListN.{length, getD, set, replicate, length-append}
 use lib.IntN.{ℤ, pos, negsuc, negℤ, natAbs, _+ℤ_, _-ℤ_, _*ℤ_}
 use lib.Signed.{leZ, _≤ℤ_, ≤ℤ-refl}
 use Rattle.std.specs.Numbers.{maxZ}
@@ -18,6 +18,7 @@ use Rattle.std.proofs.shelf.Lists.{length-set, length-replicate, getD-replicate
 use Rattle.std.proofs.shelf.Signed.{ints, clamps}
 use Rattle.std.proofs.shelf.Tests.{and-parts, leb-true, ltb-true, eqb-false, false≢true, true≢false}
 use Rattle.terms.specs.Cards.{within}
+use Rattle.terms.proofs.Places.{none-fails}
 use Rattle.terms.specs.declared.cards.Held.{Held}
 use Rattle.terms.specs.declared.refusal.Refusal.the-variants.{BadCard, NoSuchLine, BadQuantity, BadPrice, BadAmount, OrdersFull, NetTooLarge, TooManyContracts, NoSuchOrder, MoreThanLeft, WorseThanLimit, CollateralTooLarge}
 use Rattle.banks.specs.Meanings.{Meaning}
@@ -26,6 +27,7 @@ use Rattle.margin.specs.declared.book.Open.{Open}
 use Rattle.margin.specs.Book.{Cards, names, named, position}
 use Rattle.margin.specs.Cells.{buys, sells}
 use Rattle.margin.proofs.SumLaws.{at-most, sum-le}
+use Rattle.deck.specs.Judgements.{nameFits, isFirst, heldFits, firstUnfit}
 use Rattle.account.specs.declared.order.Order.{Order}
 use Rattle.account.specs.declared.order.OrderState.{OrderState}
 use Rattle.account.specs.declared.order.OrderState.the-variants.{Untouched, PartlyFilled, Gone}
@@ -34,8 +36,8 @@ use Rattle.account.specs.declared.order.Event.the-variants.{Filled, Cancelled}
 use Rattle.account.specs.Orders.{signed, leftAfter, fillState, stateAfter, orderAfter, isGone, found, kept, ordersAfter}
 use Rattle.account.specs.declared.call.Call.{Call}
 use Rattle.account.specs.declared.call.Call.the-variants.{Place, Cancel, Fill, Deposit, Withdraw, Margin}
-use Rattle.account.specs.Account.{State, Answer, StillLeft, bookOf, isOneOf, quantityFits, priceFits, amountFits, mostCollateral, withCollateral, newOrder, placed, filled, cancelled, orderChecks, fillChecks, onOrder, checks, step, run}
-use Rattle.account.specs.Begin.{heldFits, holdsLine, heldFrom, badFamily, badBasket, badMonth, badLine, badHeld, firstBad, heldAt, nothing, putIn, firstState, beginChecks, begin}
+use Rattle.account.specs.Account.{State, Answer, StillLeft, bookOf, quantityFits, priceFits, amountFits, mostCollateral, withCollateral, newOrder, placed, filled, cancelled, orderChecks, fillChecks, onOrder, checks, step, run}
+use Rattle.account.specs.Begin.{heldAt, nothing, putIn, firstState, beginChecks, begin}
 use Rattle.account.specs.Runs.{NoneRefuses}
 use Rattle.account.specs.Bounds.{OrderInBounds, Ascending, LineInBounds, InBoundsIsSmall, InBounds, summed, dearest, BoundedAfterAnyCalls}
 use Rattle.account.proofs.Fills.{one-side}
@@ -44,7 +46,7 @@ use Rattle.account.proofs.Products.{times-pos}
 use Rattle.account.proofs.OrderSums.{ofOne, sumOf}
 use Rattle.account.proofs.Events.{buyPart, sellPart, of-one-high, size-high, buys-are, sells-are}
 use Rattle.account.proofs.Checked.{passed, no-place, refuses, decided-none, step-cases}
-use Rattle.account.proofs.Kept.{none-fails, neither, put-in-length}
+use Rattle.account.proofs.Kept.{none-unfit, put-in-length}
 
 -- ---- the open orders after an event
 pub orders-no-more : (number : ℤ) (event : Event) (orders : List Order) → length (ordersAfter number event orders) ≤ length orders
@@ -154,9 +156,9 @@ summed-set [] i n h = absurd (omega arith)
 summed-set (x ∷ xs) zero n h = omega arith
 summed-set (x ∷ xs) (suc i) n h = let later = summed-set xs i n (omega arith) in omega arith
 
-one-of : (count : ℕ) (line : ℤ) → isOneOf count line ≡ true → named line < count
-unfolding isOneOf named
-one-of count (pos n) e = ltb-true n count e
+one-of : (count : ℕ) (line : ℤ) → nameFits count line ≡ true → named line < count
+unfolding named
+one-of count (pos n) e = ltb-true n count (and-parts _ _ e .1)
 one-of count (negsuc n) e = absurd (false≢true e)
 
 module _ (s : State) (bounds : InBounds s) where
@@ -270,17 +272,17 @@ record PositionFits (p : Position) : Type 0 where
   net-high : p .net ≤ℤ pos 10000
   cost-small : natAbs (p .cost) ≤ dearest * 10000
 
-held-fits : (cards : Cards) (h : Held) → heldFits cards h ≡ true → PositionFits (heldAt h)
-held-fits cards h e = record { net-low = at-most (negsuc 9999) (h .net) (nets .0); net-high = at-most (h .net) (pos 10000) (nets .1); cost-small = le-trans (cost-size (h .net) (h .price) (in-size (h .price) 10000000 (at-most (pos 0) (h .price) (prices .0)) (at-most (h .price) (pos 10000000) (prices .1)))) (most (natAbs (h .net)) (size (h .net) (at-most (negsuc 9999) (h .net) (nets .0)) (at-most (h .net) (pos 10000) (nets .1)))) }
+held-fits : (lines : ℕ) (all : List Held) (place : ℕ) (h : Held) → heldFits lines all place h ≡ true → PositionFits (heldAt h)
+held-fits lines all place h e = record { net-low = at-most (negsuc 9999) (h .net) (nets .0); net-high = at-most (h .net) (pos 10000) (nets .1); cost-small = le-trans (cost-size (h .net) (h .price) (in-size (h .price) 10000000 (at-most (pos 0) (h .price) (prices .0)) (at-most (h .price) (pos 10000000) (prices .1)))) (most (natAbs (h .net)) (size (h .net) (at-most (negsuc 9999) (h .net) (nets .0)) (at-most (h .net) (pos 10000) (nets .1)))) }
   where
-    parts : ((isOneOf (length (cards .lines)) (h .line) && within (negsuc 9999) (pos 10000) (h .net)) ≡ true) × (priceFits (h .price) ≡ true)
-    parts = and-parts (isOneOf (length (cards .lines)) (h .line) && within (negsuc 9999) (pos 10000) (h .net)) (priceFits (h .price)) e
+    parts : ((nameFits lines (h .line) && within (negsuc 9999) (pos 10000) (h .net)) ≡ true) × ((priceFits (h .price) && isFirst (h .line) all place) ≡ true)
+    parts = and-parts (nameFits lines (h .line) && within (negsuc 9999) (pos 10000) (h .net)) (priceFits (h .price) && isFirst (h .line) all place) e
 
     nets : (leZ (negsuc 9999) (h .net) ≡ true) × (leZ (h .net) (pos 10000) ≡ true)
-    nets = and-parts (leZ (negsuc 9999) (h .net)) (leZ (h .net) (pos 10000)) (and-parts (isOneOf (length (cards .lines)) (h .line)) (within (negsuc 9999) (pos 10000) (h .net)) (parts .0) .1)
+    nets = and-parts (leZ (negsuc 9999) (h .net)) (leZ (h .net) (pos 10000)) (and-parts (nameFits lines (h .line)) (within (negsuc 9999) (pos 10000) (h .net)) (parts .0) .1)
 
     prices : (leZ (pos 0) (h .price) ≡ true) × (leZ (h .price) (pos 10000000) ≡ true)
-    prices = and-parts (leZ (pos 0) (h .price)) (leZ (h .price) (pos 10000000)) (parts .1)
+    prices = and-parts (leZ (pos 0) (h .price)) (leZ (h .price) (pos 10000000)) (and-parts (priceFits (h .price)) (isFirst (h .line) all place) (parts .1) .0)
 
     size : (n : ℤ) → negsuc 9999 ≤ℤ n → n ≤ℤ pos 10000 → natAbs n ≤ 10000
     size (pos n) low high = omega (arith, ints)
@@ -294,15 +296,9 @@ unfolding putIn
 put-in-fits [] positions hs ps = ps
 put-in-fits (h ∷ held) positions hs ps = put-in-fits held (set positions (named (h .line)) (heldAt h)) (hs .1) (all-set PositionFits positions (named (h .line)) (heldAt h) (hs .0) ps)
 
--- where no card and no record is bad, each record fits
-records-fit : (cards : Cards) (held : List Held) → firstBad cards held ≡ None → All (λ h. PositionFits (heldAt h)) held
-unfolding firstBad
-records-fit cards held e =
-    let after-families = neither (badFamily cards) _ e .1 in
-    let after-baskets = neither (badBasket cards) _ after-families .1 in
-    let after-months = neither (badMonth cards) _ after-baskets .1 in
-    let after-lines = neither (badLine cards) (badHeld cards held) after-months .1 in
-    all-from-getD _ held none (λ k less. held-fits cards _ (and-parts _ _ (none-fails (λ i h. heldFits cards h && not (holdsLine (h .line) (take (i - heldFrom cards) held))) none (heldFrom cards) held after-lines k less) .0))
+-- where no card and no record is unfit, what is held is small
+records-fit : (cards : Cards) (held : List Held) → firstUnfit cards held ≡ None → All (λ h. PositionFits (heldAt h)) held
+records-fit cards held e = all-from-getD _ held none (λ k less. held-fits (length (cards .lines)) held k (getD held k none) (none-fails (heldFits (length (cards .lines)) held) none held (none-unfit cards held e .1) k less))
   where
     none : Held
     none = record { line = pos 0; net = pos 0; price = pos 0 }
@@ -319,7 +315,7 @@ module _ (bank : Meaning) (cards : Cards) (held : List Held) (collateral : ℕ) 
   unfolding sumOf
   no-sells l = sells-are first l
 
-  first-line : firstBad cards held ≡ None → (l : ℕ) → l < length (cards .lines) → LineInBounds first l
+  first-line : firstUnfit cards held ≡ None → (l : ℕ) → l < length (cards .lines) → LineInBounds first l
   first-line e l less = record {
     may-hold = long (position (bookOf first) l .net) _ (no-buys l) (fits .net-high);
     may-be-short = short (position (bookOf first) l .net) _ (no-sells l) (fits .net-low);
@@ -342,7 +338,7 @@ module _ (bank : Meaning) (cards : Cards) (held : List Held) (collateral : ℕ) 
       cost : (c : ℕ) → c ≤ dearest * 10000 → (pos c +ℤ pos 0) ≤ℤ pos (dearest * 10000)
       cost c h = omega (arith, ints)
 
-  first-bounded : firstBad cards held ≡ None → collateral ≤ mostCollateral → InBounds first
+  first-bounded : firstUnfit cards held ≡ None → collateral ≤ mostCollateral → InBounds first
   first-bounded e few = record {
     a-position-a-line = put-in-length held (replicate (length (cards .lines)) nothing) ∙ length-replicate (length (cards .lines)) nothing;
     a-count-a-line = length-replicate (length (cards .lines)) 0;
@@ -360,7 +356,7 @@ unfolding begin
 bounded-after-any-calls bank cards held collateral begun e calls =
     let made = decided-none (beginChecks bank cards held collateral) (firstState bank cards held (natAbs collateral)) begun e in
     let amounts = and-parts _ _ (passed (amountFits collateral) BadAmount (made .0 .1 .1 .0)) in
-    run-bounded begun (subst InBounds (made .1) (first-bounded bank cards held (natAbs collateral) (no-place (firstBad cards held) BadCard (made .0 .0)) (in-size collateral mostCollateral (at-most (pos 0) collateral (amounts .0)) (at-most collateral (pos mostCollateral) (amounts .1))))) calls
+    run-bounded begun (subst InBounds (made .1) (first-bounded bank cards held (natAbs collateral) (no-place (firstUnfit cards held) BadCard (made .0 .0)) (in-size collateral mostCollateral (at-most (pos 0) collateral (amounts .0)) (at-most collateral (pos mostCollateral) (amounts .1))))) calls
 
 -- ---- small lines
 sum-high : (l : ℕ) (part : Open → ℤ) → ((o : Open) → pos 0 ≤ℤ part o) → (orders : List Order) → pos 0 ≤ℤ sumOf (ofOne l part) orders

@@ -1,34 +1,39 @@
 -- What every state has that an account comes to from its begin: a position for each line, futures whose rates do not fall, and a margin that the collateral covers. Assumes nothing.
-use Prim.Native.Nat.{ℕ, zero, suc, _+_, _-_, _≤_, _<_}
+use Prim.Native.Nat.{ℕ, _+_, _-_, _≤_}
 use mathlib.Core.Path.{_≡_, refl, _∙_, subst}
-use mathlib.Core.Bool.{Bool, true, false}
+use mathlib.Core.Bool.{true, false, _||_}
 use mathlib.Core.List.{List, [], _∷_}
+use mathlib.Core.Logic.{⊎-elim}
 use native.Mathlib.Nat.{le-trans}
 use native.Mathlib.Omega.{arith}
-use lib.ListN.{length, getD, set, replicate}
+use lib.Dec.{leb}
+use lib.ListN.{length, set, replicate}
 use lib.IntN.{ℤ, pos, natAbs}
 use lib.Signed.{_≤ℤ_}
 use Rattle.std.specs.declared.option.Option.{Option}
 use Rattle.std.specs.declared.option.Option.the-variants.{Some, None}
 use Rattle.std.specs.declared.result.Result.the-variants.{Ok}
 use Rattle.std.proofs.shelf.Lists.{length-set, length-replicate}
-use Rattle.std.proofs.shelf.Tests.{and-parts, leb-true, false≢true}
+use Rattle.std.proofs.shelf.Tests.{and-parts, or-cases, leb-true, ltb-true, lt-leb, both-ways, false≢true}
 use Rattle.terms.specs.Cards.{futureFits}
 use Rattle.terms.specs.declared.cards.Line.{Line}
 use Rattle.terms.specs.declared.cards.Held.{Held}
 use Rattle.terms.specs.declared.refusal.Refusal.the-variants.{BadCard, BadQuantity, NotCovered, NoSuchOrder, MoreThanLeft, WorseThanLimit}
 use Rattle.banks.specs.Meanings.{Meaning}
 use Rattle.terms.specs.Judging.{failing}
+use Rattle.terms.proofs.Places.{none-fails}
 use Rattle.margin.specs.declared.book.Position.{Position}
 use Rattle.margin.specs.Book.{Cards, named, line, isFuture}
 use Rattle.margin.proofs.SumLaws.{at-most}
+use Rattle.deck.specs.Judgements.{familyFits, basketFits, monthFits, lineFits, heldFits, along, firstUnfit, noLine}
+use Rattle.deck.proofs.Facts.{along-none}
 use Rattle.account.specs.declared.order.Order.{Order}
 use Rattle.account.specs.declared.call.Call.{Call}
 use Rattle.account.specs.declared.call.Call.the-variants.{Place, Cancel, Fill, Deposit, Withdraw, Margin}
 use Rattle.account.specs.declared.order.Event.the-variants.{Filled}
 use Rattle.account.specs.Orders.{found, leftAfter}
 use Rattle.account.specs.Account.{State, Answer, lastOf, bookOf, marginOf, quantityFits, StillLeft, orderChecks, onOrder, checks, fillChecks, step, run, cancelled, filled, placed, withCollateral}
-use Rattle.account.specs.Begin.{lineFits, orElse, linesFrom, badFamily, badBasket, badMonth, badLine, badHeld, firstBad, heldAt, nothing, putIn, firstState, beginChecks, begin}
+use Rattle.account.specs.Begin.{heldAt, nothing, putIn, firstState, beginChecks, begin}
 use Rattle.account.specs.Runs.{NoneRefuses, fillOrCancel, OnlyFillsAndCancels}
 use Rattle.account.proofs.Eased.{RatesRise, FuturesRise, margin-eases}
 use Rattle.account.proofs.Events.{fill-eases, cancel-eases}
@@ -113,34 +118,6 @@ run-lowers s kept [] only = omega arith
 run-lowers s kept (call ∷ calls) only = let lower = fill-or-cancel-lowers s kept call (only .0) in le-trans (run-lowers (step s call .0) (lower .kept) calls (only .1)) (lower .no-greater)
 
 -- ---- begin
--- a list in which no item fails a test
-pub none-fails : {X : Type 0} (test : ℕ → X → Bool) (d : X) (i : ℕ) (xs : List X) → failing test i xs ≡ None → (k : ℕ) → k < length xs → test (i + k) (getD xs k d) ≡ true
-unfolding failing
-none-fails test d i [] e k h = absurd (omega arith)
-none-fails {X} test d i (x ∷ xs) e k h = by (λ later. none-fails test d (suc i) xs later) (test i x) refl e k h
-  where
-    by : (failing test (suc i) xs ≡ None → (k : ℕ) → k < length xs → test (suc i + k) (getD xs k d) ≡ true) → (fits : Bool) → test i x ≡ fits → _≡_ {A = Option ℕ} (elim fits [ true ↦ failing test (suc i) xs | false ↦ Some i ]) None → (k : ℕ) → k < suc (length xs) → test (i + k) (getD (x ∷ xs) k d) ≡ true
-    by later true e n zero h = let z : i ≡ i + 0 = omega arith in subst (λ (j : ℕ). test j x ≡ true) z e
-    by later true e n (suc k) h = let z : suc i + k ≡ i + suc k = omega arith in subst (λ (j : ℕ). test j (getD xs k d) ≡ true) z (later n k (omega arith))
-    by later false e n k h = absurd (let z : _≡_ {A = ℕ} 0 1 = cc in omega arith)
-
--- places that none of two lists has
-pub neither : (a b : Option ℕ) → orElse a b ≡ None → (a ≡ None) × (b ≡ None)
-neither None b e = (refl, e)
-neither (Some k) b e = absurd (let z : _≡_ {A = ℕ} 0 1 = cc in omega arith)
-
-pub lines-fit : (cards : Cards) (held : List Held) → firstBad cards held ≡ None → (l : ℕ) → l < length (cards .lines) → lineFits cards l (line cards l) ≡ true
-unfolding firstBad
-lines-fit cards held e l less =
-    let after-families = neither (badFamily cards) _ e .1 in
-    let after-baskets = neither (badBasket cards) _ after-families .1 in
-    let after-months = neither (badMonth cards) _ after-baskets .1 in
-    let fits = none-fails (λ i. lineFits cards (i - linesFrom cards)) _ (linesFrom cards) (cards .lines) (neither (badLine cards) (badHeld cards held) after-months .0) l less in
-    subst (λ (k : ℕ). lineFits cards k (line cards l) ≡ true) (at (linesFrom cards) l) fits
-  where
-    at : (a b : ℕ) → a + b - a ≡ b
-    at a b = omega arith
-
 future-rises : (f : Line) → futureFits f ≡ true → RatesRise f
 future-rises f e =
     let parts = and-parts _ _ e in
@@ -151,12 +128,22 @@ future-rises f e =
     let second = and-parts _ _ (third .0) in
     record { spot-low = at-most _ _ (and-parts _ _ (price-spot .1) .0); first-second = at-most _ _ (second .1); second-third = at-most _ _ (third .1) }
 
-begun-rises : (cards : Cards) (held : List Held) → firstBad cards held ≡ None → FuturesRise cards
-begun-rises cards held e l less is = future-rises (line cards l) (by (isFuture cards l) is (and-parts _ _ (lines-fit cards held e l less) .1))
+-- where no card and no held record is unfit, no line and no held record is
+pub none-unfit : (cards : Cards) (held : List Held) → firstUnfit cards held ≡ None → (failing (lineFits (length (cards .months)) (cards .futures)) 0 (cards .lines) ≡ None) × (failing (heldFits (length (cards .lines)) held) 0 held ≡ None)
+none-unfit cards held = last-two (failing (λ place. familyFits) 0 (cards .families)) (failing (λ place. basketFits (length (cards .families))) 0 (cards .baskets)) (failing (λ place. monthFits (length (cards .baskets))) 0 (cards .months)) (failing (lineFits (length (cards .months)) (cards .futures)) 0 (cards .lines)) (failing (heldFits (length (cards .lines)) held) 0 held) (length (cards .families)) (length (cards .baskets)) (length (cards .months)) (length (cards .lines))
   where
-    by : (future : Bool) → future ≡ true → (elim future [ true ↦ futureFits (line cards l) | false ↦ true ]) ≡ true → futureFits (line cards l) ≡ true
-    by true e h = h
-    by false e h = absurd (false≢true e)
+    last-two : (f b m l h : Option ℕ) (families baskets months lines : ℕ) → along f families (along b baskets (along m months (along l lines h))) ≡ None → (l ≡ None) × (h ≡ None)
+    last-two f b m l h families baskets months lines e =
+        let past-families = along-none f families (along b baskets (along m months (along l lines h))) e .1 in
+        let past-baskets = along-none b baskets (along m months (along l lines h)) past-families .1 in
+        along-none l lines h (along-none m months (along l lines h) past-baskets .1)
+
+begun-rises : (cards : Cards) (held : List Held) → firstUnfit cards held ≡ None → FuturesRise cards
+unfolding isFuture
+begun-rises cards held e l less is = future-rises (line cards l) (a-future (and-parts _ _ (none-fails (lineFits (length (cards .months)) (cards .futures)) noLine (cards .lines) (none-unfit cards held e .0) l less) .1))
+  where
+    a-future : (leb (cards .futures) l || futureFits (line cards l)) ≡ true → futureFits (line cards l) ≡ true
+    a-future h = ⊎-elim (λ t. absurd (both-ways _ (lt-leb (cards .futures) l (ltb-true l (cards .futures) is)) t)) (λ t. t) (or-cases _ _ h)
 
 pub put-in-length : (held : List Held) (positions : List Position) → length (putIn held positions) ≡ length positions
 unfolding putIn
@@ -169,6 +156,6 @@ begin-keeps bank cards held collateral s e =
     let made = decided-none (beginChecks bank cards held collateral) (firstState bank cards held (natAbs collateral)) s e in
     subst Kept (made .1) (record {
       a-position-a-line = put-in-length held (replicate (length (cards .lines)) nothing) ∙ length-replicate (length (cards .lines)) nothing;
-      rates-rise = begun-rises cards held (no-place (firstBad cards held) BadCard (made .0 .0));
+      rates-rise = begun-rises cards held (no-place (firstUnfit cards held) BadCard (made .0 .0));
       covers = leb-true _ _ (passed _ NotCovered (made .0 .1 .1 .1 .0));
     })

@@ -4,7 +4,7 @@ use mathlib.Core.Bool.{Bool, true, false, _&&_}
 use mathlib.Core.List.{List, [], _∷_, _++_, map}
 use lib.Dec.{leb, ltb}
 use lib.ListN.{length, getD, set}
-use lib.IntN.{ℤ, pos, negsuc, natAbs, _+ℤ_, _-ℤ_, _*ℤ_}
+use lib.IntN.{ℤ, pos, natAbs, _+ℤ_, _-ℤ_, _*ℤ_}
 use lib.Signed.{leZ}
 use Rattle.std.specs.declared.option.Option.{Option}
 use Rattle.std.specs.declared.option.Option.the-variants.{Some, None}
@@ -24,6 +24,7 @@ use Rattle.margin.specs.Layers.{familyLoss, familyWorst, costliest}
 use Rattle.margin.specs.Worlds.{World}
 use Rattle.margin.specs.HandedOut.{handedOut}
 use Rattle.margin.specs.LeastCover.{margin}
+use Rattle.deck.specs.Judgements.{nameFits}
 use Rattle.account.specs.declared.order.Order.{Order}
 use Rattle.account.specs.declared.order.OrderState.the-variants.{Untouched}
 use Rattle.account.specs.declared.order.Event.the-variants.{Filled, Cancelled}
@@ -129,11 +130,6 @@ abbrev pub cancelled : State → ℤ → State
 cancelled s number = withTrades s (s .positions) (ordersAfter number Cancelled (s .orders))
 
 -- ---- what refuses calls, in the order of the checks
--- whether a number is that of one of so many
-unfoldable pub isOneOf : ℕ → ℤ → Bool
-isOneOf count (pos n) = ltb n count
-isOneOf count (negsuc n) = false
-
 abbrev pub quantityFits : ℤ → Bool
 quantityFits quantity = within (pos 1) (pos 10000) quantity
 
@@ -157,7 +153,7 @@ netFits s l = leZ (position (bookOf s) l .net +ℤ buys (bookOf s) l) (pos 10000
 abbrev pub placeChecks : State → ℤ → ℤ → ℤ → List (Option Refusal)
 placeChecks s line quantity limit =
     let after = placed s line quantity limit in
-    unless (isOneOf (length (s .cards .lines)) line) NoSuchLine
+    unless (nameFits (length (s .cards .lines)) line) NoSuchLine
     ∷ unless (quantityFits (pos (natAbs quantity))) BadQuantity
     ∷ unless (priceFits limit) BadPrice
     ∷ unless (ltb (length (s .orders)) 32) OrdersFull

@@ -36,7 +36,7 @@ passed-as [] x e = refl
 passed-as (None ∷ checks) x e = passed-as checks x e
 passed-as (Some why ∷ checks) x e = cc
 
-along-none : (here : Option ℕ) (count : ℕ) (later : Option ℕ) → along here count later ≡ None → (here ≡ None) × (later ≡ None)
+pub along-none : (here : Option ℕ) (count : ℕ) (later : Option ℕ) → along here count later ≡ None → (here ≡ None) × (later ≡ None)
 along-none (Some k) count later e = absurd (some-is-none k e)
 along-none None count None e = (refl, refl)
 along-none None count (Some k) e = absurd (some-is-none (count + k) e)
