@@ -1,4 +1,4 @@
--- Every state that an account comes to from its begin is in bounds. Assumes nothing.
+-- Every state that an account comes to from its begin is in bounds.
 use Prim.Native.Nat.{ℕ, zero, suc, _+_, _-_, _*_, _≤_, _<_}
 use mathlib.Core.Path.{_≡_, refl, sym, _∙_, subst}
 use mathlib.Core.Bool.{Bool, true, false, _&&_}
@@ -42,7 +42,7 @@ use Rattle.account.specs.Runs.{NoneRefuses}
 use Rattle.account.specs.Bounds.{OrderInBounds, Ascending, LineInBounds, InBoundsIsSmall, InBounds, summed, dearest, BoundedAfterAnyCalls}
 use Rattle.account.proofs.Fills.{one-side}
 use Rattle.account.proofs.Lines.{as-size, cost-size, side-size, in-size, cancel-line, fill-line, place-line}
-use Rattle.account.proofs.Products.{times-pos}
+use Rattle.margin.proofs.Products.{both-up}
 use Rattle.account.proofs.OrderSums.{ofOne, sumOf}
 use Rattle.account.proofs.Events.{buyPart, sellPart, of-one-high, size-high, buys-are, sells-are}
 use Rattle.account.proofs.Checked.{passed, no-place, refuses, decided-none, step-cases}
@@ -367,7 +367,7 @@ sum-high l part h (o ∷ os) = sum-le (pos 0) _ (pos 0) _ (of-one-high l part (o
 pub in-bounds-is-small : InBoundsIsSmall
 in-bounds-is-small s bounds l less = record {
   net-small = size (position (bookOf s) l .net) (buys (bookOf s) l) (sells (bookOf s) l) (natAbs (position (bookOf s) l .net)) (as-size (position (bookOf s) l .net)) some-buys some-sells (b .may-hold) (b .may-be-short);
-  cost-small = cost (natAbs (position (bookOf s) l .cost)) (pos dearest *ℤ (buys (bookOf s) l +ℤ sells (bookOf s) l)) (getD (s .accepted) l 0) (times-pos (pos dearest) (buys (bookOf s) l +ℤ sells (bookOf s) l) (omega (arith, ints)) (sum-le (pos 0) _ (pos 0) _ some-buys some-sells)) (b .few-accepted) (b .cost-bounded);
+  cost-small = cost (natAbs (position (bookOf s) l .cost)) (pos dearest *ℤ (buys (bookOf s) l +ℤ sells (bookOf s) l)) (getD (s .accepted) l 0) (both-up (pos dearest) (buys (bookOf s) l +ℤ sells (bookOf s) l) (omega (arith, ints)) (sum-le (pos 0) _ (pos 0) _ some-buys some-sells)) (b .few-accepted) (b .cost-bounded);
   buys-low = some-buys;
   buys-small = few (position (bookOf s) l .net) (buys (bookOf s) l) (sells (bookOf s) l) some-sells (b .may-hold) (b .may-be-short);
   sells-low = some-sells;

@@ -1,4 +1,4 @@
--- The laws of calls: checks decide, and a refusal changes nothing. Assumes nothing.
+-- The laws of calls: checks decide, and a refusal changes nothing.
 use Prim.Native.Nat.{ℕ}
 use mathlib.Core.Path.{_≡_, refl, ap}
 use mathlib.Core.Bool.{Bool, true, false}

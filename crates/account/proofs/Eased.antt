@@ -1,4 +1,4 @@
--- Where a line's results do not fall and what it may come to does not rise, no cell falls, and so the margin does not rise. Assumes nothing.
+-- Where a line's results do not fall and what it may come to does not rise, no cell falls, and so the margin does not rise.
 use Prim.Native.Nat.{ℕ, _≤_, _<_}
 use mathlib.Core.Path.{_≡_, refl}
 use mathlib.Core.Bool.{Bool, true, false, _&&_}
@@ -15,7 +15,7 @@ use Rattle.margin.specs.Cells.{holdsPrice, gridded, positionResult, orderResult
 use Rattle.margin.specs.LeastCover.{margin}
 use Rattle.margin.proofs.SumLaws.{sum-le, total-le}
 use Rattle.margin.proofs.Cover.{margin-falls-as-cells-rise}
-use Rattle.account.proofs.Products.{times-pos, times-le}
+use Rattle.margin.proofs.Products.{both-up, scaled}
 
 -- a future whose rates do not fall
 pub record RatesRise (f : Line) : Type 0 where
@@ -31,11 +31,11 @@ above-le a b limit h = omega (arith, ints, clamps)
 pub charge-le : (f : Line) (a b : ℤ) → RatesRise f → a ≤ℤ b → charge f a ≤ℤ charge f b
 unfolding charge
 charge-le f a b rise h =
-    times-le (pos 8 *ℤ f .spot) _ _ (times-pos (pos 8) (f .spot) (omega (arith, ints)) (rise .spot-low))
+    scaled (pos 8 *ℤ f .spot) _ _ (both-up (pos 8) (f .spot) (omega (arith, ints)) (rise .spot-low))
     (sum-le _ _ _ _ (part (f .rates .r1) (f .rates .r2) (f .limits .a) (rise .first-second)) (part (f .rates .r2) (f .rates .r3) (f .limits .b) (rise .second-third)))
   where
     part : (r r′ limit : ℤ) → r ≤ℤ r′ → ((r′ -ℤ r) *ℤ above limit a) ≤ℤ ((r′ -ℤ r) *ℤ above limit b)
-    part r r′ limit k = times-le (r′ -ℤ r) (above limit a) (above limit b) (omega (arith, ints)) (above-le a b limit h)
+    part r r′ limit k = scaled (r′ -ℤ r) (above limit a) (above limit b) (omega (arith, ints)) (above-le a b limit h)
 
 -- what a line adds to cells from one book to another: its position and its orders give no less in any cell, and it may come to no more on either side
 pub record Eased (before after : Book) (l : ℕ) : Type 0 where

@@ -1,4 +1,4 @@
--- Fills and cancels ease every line: no cell falls by them, and no line may come to more. Assumes nothing.
+-- Fills and cancels ease every line: no cell falls by them, and no line may come to more.
 use Prim.Native.Nat.{ℕ, _≤_, _<_}
 use mathlib.Core.Path.{_≡_, refl, sym, ap, subst}
 use mathlib.Core.Bool.{Bool, true, false}

@@ -1,6 +1,6 @@
--- What a fill at a price no worse than the limit does to the result of a position and an order, and to what a line may come to. Assumes nothing.
+-- What a fill at a price no worse than the limit does to the result of a position and an order, and to what a line may come to.
 use Prim.Native.Nat.{ℕ}
-use mathlib.Core.Path.{_≡_, refl, sym, ap, _∙_}
+use mathlib.Core.Path.{_≡_, refl, ap, _∙_}
 use mathlib.Core.Bool.{Bool, true, false}
 use mathlib.Core.Logic.{inl, inr}
 use native.Mathlib.Omega.{arith}
@@ -14,7 +14,8 @@ use Rattle.margin.specs.Cells.{holdsPrice, positionResult, orderResult}
 use Rattle.margin.proofs.SumLaws.{at-most, not-at-most}
 use Rattle.account.specs.Orders.{signed}
 use Rattle.account.specs.Account.{moved, noWorse}
-use Rattle.account.proofs.Products.{add-times, times-add, times-neg, times-le, times-assoc, OneSide, both-times, one-side-times}
+use Rattle.margin.proofs.Products.{times-sum, scaled, multiple}
+use Rattle.account.proofs.Products.{times-add, times-neg, OneSide, both-times, one-side-times}
 
 -- ---- the contracts that are filled and those that are left are of one side
 pub one-side : (q f : ℤ) → pos 1 ≤ℤ f → f ≤ℤ pos (natAbs q) → OneSide (signed q f) (q -ℤ signed q f)
@@ -44,7 +45,7 @@ no-worse-side o f price low = by (leZ (pos 0) (o .left))
 -- ---- results
 -- an order's part that counts only below 0: what is filled and what is left give no less apart
 pub apart : (m r y : ℤ) → OneSide m r → minZ (pos 0) ((m +ℤ r) *ℤ y) ≤ℤ (m *ℤ y +ℤ minZ (pos 0) (r *ℤ y))
-apart m r y side = let e = add-times m r y in signs ((m +ℤ r) *ℤ y) (m *ℤ y) (r *ℤ y) e (both-times m r y side)
+apart m r y side = let e = times-sum m r y in signs ((m +ℤ r) *ℤ y) (m *ℤ y) (r *ℤ y) e (both-times m r y side)
   where
     signs : (t a b : ℤ) → t ≡ a +ℤ b → OneSide a b → minZ (pos 0) t ≤ℤ (a +ℤ minZ (pos 0) b)
     signs t a b e (inl (h, k)) = omega (arith, ints, clamps)
@@ -56,9 +57,9 @@ costs-no-more m limit price side =
     let p = one-side-times m (limit -ℤ price) side in
     let d = times-add m limit (negℤ price) in
     let n = times-neg m price in
-    let le = times-le (pos 80000) (m *ℤ price) (m *ℤ limit) (omega (arith, ints)) (omega (arith, ints)) in
-    let left = times-assoc (pos 80000) m price in
-    let right = sym (times-assoc m (pos 80000) limit) ∙ ap (λ (k : ℤ). k *ℤ limit) (*ℤ-comm m (pos 80000)) ∙ times-assoc (pos 80000) m limit in
+    let le = scaled (pos 80000) (m *ℤ price) (m *ℤ limit) (omega (arith, ints)) (omega (arith, ints)) in
+    let left = multiple 80000 m price in
+    let right = *ℤ-comm m (pos 80000 *ℤ limit) ∙ multiple 80000 limit m ∙ ap (λ (k : ℤ). pos 80000 *ℤ k) (*ℤ-comm limit m) in
     omega (arith, ints)
 
 -- what a position gains by contracts at a price, with what is left of the order, is no less than the order whole
@@ -75,11 +76,11 @@ no-less p m r limit price x column side worse line = by (holdsPrice column)
         let b = costs-no-more m limit price worse in
         let d = times-add m x (negℤ (pos 80000 *ℤ limit)) in
         let e = times-neg m (pos 80000 *ℤ limit) in
-        let f = add-times n m x in
+        let f = times-sum n m x in
         linear (n *ℤ x) ((n +ℤ m) *ℤ x) (m *ℤ x) (m *ℤ (x -ℤ pos 80000 *ℤ limit)) (m *ℤ (pos 80000 *ℤ limit)) (m *ℤ negℤ (pos 80000 *ℤ limit)) (pos 80000 *ℤ m *ℤ price) c (minZ (pos 0) ((m +ℤ r) *ℤ (x -ℤ pos 80000 *ℤ limit))) (minZ (pos 0) (r *ℤ (x -ℤ pos 80000 *ℤ limit))) a b d e f
 
     changed : (n : ℤ) → (n *ℤ x +ℤ minZ (pos 0) ((m +ℤ r) *ℤ x)) ≤ℤ ((n +ℤ m) *ℤ x +ℤ minZ (pos 0) (r *ℤ x))
-    changed n = let a = apart m r x side in let f = add-times n m x in omega (arith, ints)
+    changed n = let a = apart m r x side in let f = times-sum n m x in omega (arith, ints)
 
     by : (holds : Bool) → ((elim holds [ true ↦ p .net *ℤ x -ℤ p .cost | false ↦ p .net *ℤ x ]) +ℤ minZ (pos 0) (elim holds [ true ↦ (m +ℤ r) *ℤ (x -ℤ pos 80000 *ℤ limit) | false ↦ (m +ℤ r) *ℤ x ])) ≤ℤ ((elim holds [ true ↦ (p .net +ℤ m) *ℤ x -ℤ (p .cost +ℤ pos 80000 *ℤ m *ℤ price) | false ↦ (p .net +ℤ m) *ℤ x ]) +ℤ minZ (pos 0) (elim holds [ true ↦ r *ℤ (x -ℤ pos 80000 *ℤ limit) | false ↦ r *ℤ x ]))
     by true = priced (p .net) (p .cost)

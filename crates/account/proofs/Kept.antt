@@ -1,4 +1,4 @@
--- What every state has that an account comes to from its begin: a position for each line, futures whose rates do not fall, and a margin that the collateral covers. Assumes nothing.
+-- What every state has that an account comes to from its begin: a position for each line, futures whose rates do not fall, and a margin that the collateral covers.
 use Prim.Native.Nat.{ℕ, _+_, _-_, _≤_}
 use mathlib.Core.Path.{_≡_, refl, _∙_, subst}
 use mathlib.Core.Bool.{true, false, _||_}

@@ -1,4 +1,4 @@
--- The bounds of a line through placing, filling and cancelling. Assumes nothing.
+-- The bounds of a line through placing, filling and cancelling.
 use Prim.Native.Nat.{ℕ, _+_, _*_, _≤_, _<_}
 use mathlib.Core.Path.{_≡_, refl, sym, ap, _∙_, subst}
 use mathlib.Core.Bool.{Bool, true, false}
@@ -25,7 +25,8 @@ use Rattle.account.specs.declared.order.Event.the-variants.{Filled}
 use Rattle.account.specs.Orders.{signed, found}
 use Rattle.account.specs.Account.{State, bookOf, noWorse, filled, cancelled, placed, newOrder, netFits}
 use Rattle.account.specs.Bounds.{dearest, LineInBounds}
-use Rattle.account.proofs.Products.{times-add, times-le, OneSide}
+use Rattle.margin.proofs.Products.{scaled}
+use Rattle.account.proofs.Products.{times-add, OneSide}
 use Rattle.account.proofs.OrderSums.{ofOne, sum-more}
 use Rattle.account.proofs.Events.{sum-off, sum-on, buyPart, sellPart, of-one-high, size-high, buys-are, sells-are, cancel-sum, cancel-eases, fill-part, whole, sides, position-off, position-on, fill-eases}
 
@@ -73,7 +74,7 @@ side-size m r q side e = linear (natAbs q) (natAbs m) (natAbs r) (as-size q) (as
 -- contracts open now and contracts moved since, at the dearest each
 pub cost-moves : (cost moves : ℤ) (before after : ℤ) (m k : ℕ) → natAbs moves ≤ dearest * m → (after +ℤ pos m) ≤ℤ before → (pos (natAbs cost) +ℤ pos dearest *ℤ before) ≤ℤ pos k → (pos (natAbs (cost +ℤ moves)) +ℤ pos dearest *ℤ after) ≤ℤ pos k
 cost-moves cost moves before after m k small less h =
-    let a = times-le (pos dearest) (after +ℤ pos m) before (omega (arith, ints)) less in
+    let a = scaled (pos dearest) (after +ℤ pos m) before (omega (arith, ints)) less in
     let b = times-add (pos dearest) after (pos m) in
     linear (natAbs (cost +ℤ moves)) (natAbs cost) (natAbs moves) (dearest * m) (pos dearest *ℤ (after +ℤ pos m)) (pos dearest *ℤ after) (pos dearest *ℤ before) (size-add cost moves) small a b h
   where

@@ -1,4 +1,4 @@
--- Sums over the open orders of a line, and what an event does to them. Assumes nothing.
+-- Sums over the open orders of a line, and what an event does to them.
 use Prim.Native.Nat.{ℕ, zero, suc}
 use mathlib.Core.Path.{_≡_, refl, ap, _∙_}
 use mathlib.Core.Bool.{Bool, true, false}

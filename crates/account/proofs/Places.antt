@@ -1,4 +1,4 @@
--- The open orders by their places in the list, as a program that searches the list and changes it in place meets them. Assumes nothing.
+-- The open orders by their places in the list, as a program that searches the list and changes it in place meets them.
 use Prim.Native.Nat.{ℕ, zero, suc, _<_}
 use mathlib.Core.Path.{_≡_, refl, sym, ap, _∙_}
 use mathlib.Core.Bool.{Bool, true, false}

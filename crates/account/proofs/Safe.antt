@@ -1,4 +1,4 @@
--- What holds after any string of calls, put together. Assumes nothing.
+-- What holds after any string of calls, put together.
 use Prim.Native.Nat.{_≤_}
 use mathlib.Core.Path.{_≡_, refl, ap, subst}
 use Rattle.std.specs.declared.result.Result.{Result}

@@ -1,4 +1,4 @@
--- Contracts with the sign of an order, and small numbers as the code holds them. Assumes nothing.
+-- Contracts with the sign of an order, and small numbers as the code holds them.
 use Prim.Native.Nat.{ℕ, zero, suc, _≤_}
 use mathlib.Core.Path.{_≡_, refl, sym, ap, ap₂, _∙_, subst}
 use mathlib.Core.Bool.{Bool, true, false}
