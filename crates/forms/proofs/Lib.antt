@@ -4,4 +4,3 @@ pub mod Turns
 pub mod There
 pub mod Heads
 pub mod Written
-pub mod WrittenRows

@@ -42,12 +42,6 @@ module _ {R : Type 0} where
   judgeInners fill (a ∷ more) [] inner r at = Err (WrongForm at)
   judgeInners fill (a ∷ more) (i ∷ is) inner r at = then (judgeInner (fill inner) a i r at) (λ s p. judgeInners fill more is (inner + 1) s p)
 
-  -- the inner forms that are asked for, the first of those that stand there: what they fill, and those behind them
-  unfoldable pub judgeFront : (ℕ → R → ℕ → ℤ → R) → List Asked → List Inner → ℕ → R → ℕ → Told (R × List Inner)
-  judgeFront fill [] is inner r at = Ok ((r, is), at)
-  judgeFront fill (a ∷ more) [] inner r at = Err (WrongForm at)
-  judgeFront fill (a ∷ more) (i ∷ is) inner r at = then (judgeInner (fill inner) a i r at) (λ s p. judgeFront fill more is (inner + 1) s p)
-
   -- an outer form, with its bracket at that byte
   unfoldable pub judgeForm : List ℕ → List Asked → R → (ℕ → R → ℕ → ℤ → R) → Outer → ℕ → Told R
   judgeForm head fields empty fill f at =

@@ -2,5 +2,4 @@
 pub mod field;
 pub mod kind;
 pub mod reader;
-pub mod rows;
 mod takes;

@@ -2,7 +2,7 @@
 ghost use mathlib.Core.Path.{_≡_};
 ghost use mathlib.Core.List.{[]};
 ghost use Prim.Native.Nat.{_+_, _≤_};
-ghost use lib.ListN.{length, getD, drop};
+ghost use lib.ListN.{length, drop};
 ghost use Rattle.forms.specs.Fields.{asked};
 ghost use Rattle.forms.specs.Judged.{Reads-forms, Reads-lists};
 ghost use Rattle.forms.specs.Reads.{told, stands, byteIn, isHead, spaces, numberIn, fieldIn, spacedIn, openIn, fitsHead, headIn, numbersIn, innerIn, innersIn, begins, outerIn, closeIn, formIn, listOn, Listed};
@@ -29,12 +29,6 @@ pub fn read_from(text: &[u8]) -> Reader<'_>
 }
 
 impl Reader<'_> {
-    pub(crate) fn place(&self) -> usize
-        ensures { λ r. ⌜ r ≡ now (self .entry) .at ⌝ }
-    {
-        self.at
-    }
-
     // Whether a character stands here.
     fn stands_here(&self, c: char) -> bool
         ensures { λ r. ⌜ r ≡ stands c (now (now (self .entry) .text)) (now (self .entry) .at) ⌝ }
@@ -157,7 +151,7 @@ impl Reader<'_> {
     }
 
     // An inner form, filled into the record.
-    pub(crate) fn inner_form<K: Kind>(
+    fn inner_form<K: Kind>(
         &mut self,
         inner: usize,
         field: &Field,
@@ -174,7 +168,7 @@ impl Reader<'_> {
     }
 
     // The inner forms that a kind asks for, filled into its record.
-    pub(crate) fn all_inner<K: Kind>(&mut self) -> Result<K::Record, Refusal>
+    fn all_inner<K: Kind>(&mut self) -> Result<K::Record, Refusal>
         ensures answer { λ r. ⌜ told r (now (self .exit) .at) ≡ innersIn (K·Kind .filled) (now (now (self .entry) .text)) (K·Kind .fieldsOf) 0 (K·Kind .empty) (now (self .entry) .at) ⌝ }
         ensures same { λ _. ⌜ now (now (self .exit) .text) ≡ now (now (self .entry) .text) ⌝ }
     {
@@ -193,7 +187,7 @@ impl Reader<'_> {
     }
 
     // The bracket and the head of an outer form.
-    pub(crate) fn outer_head(&mut self, head: &[u8]) -> Result<(), Refusal>
+    fn outer_head(&mut self, head: &[u8]) -> Result<(), Refusal>
         ensures answer { λ r. ⌜ told r (now (self .exit) .at) ≡ outerIn (now (head .entry)) (now (now (self .entry) .text)) (now (self .entry) .at) ⌝ }
         ensures same { λ _. ⌜ now (now (self .exit) .text) ≡ now (now (self .entry) .text) ⌝ }
     {
@@ -206,7 +200,7 @@ impl Reader<'_> {
     }
 
     // The end of an outer form and of its line.
-    pub(crate) fn close_line(&mut self) -> Result<(), Refusal>
+    fn close_line(&mut self) -> Result<(), Refusal>
         ensures answer { λ r. ⌜ told r (now (self .exit) .at) ≡ closeIn (now (now (self .entry) .text)) (now (self .entry) .at) ⌝ }
         ensures same { λ _. ⌜ now (now (self .exit) .text) ≡ now (now (self .entry) .text) ⌝ }
     {
