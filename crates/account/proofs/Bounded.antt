@@ -18,11 +18,11 @@ use Rattle.margin.specs.Book.{Cards, names, named, position}
 use Rattle.margin.specs.Cells.{buys, sells}
 use Rattle.margin.proofs.SumLaws.{at_most, sum_le}
 use Rattle.deck.specs.Judgements.{name_fits, is_first, held_fits, first_unfit}
-use Rattle.account.specs.declared.order.Order.{Order}
-use Rattle.account.specs.declared.order.OrderState.{OrderState}
-use Rattle.account.specs.declared.order.OrderState.TheVariants.{Untouched, PartlyFilled, Gone}
-use Rattle.account.specs.declared.order.Event.{Event}
-use Rattle.account.specs.declared.order.Event.TheVariants.{Filled, Cancelled}
+use Rattle.account.specs.declared.orders.Order.{Order}
+use Rattle.account.specs.declared.orders.OrderState.{OrderState}
+use Rattle.account.specs.declared.orders.OrderState.TheVariants.{Untouched, PartlyFilled, Gone}
+use Rattle.account.specs.declared.orders.Event.{Event}
+use Rattle.account.specs.declared.orders.Event.TheVariants.{Filled, Cancelled}
 use Rattle.account.specs.Orders.{signed, left_after, fill_state, state_after, order_after, is_gone, found, kept, orders_after}
 use Rattle.account.specs.declared.call.Call.{Call}
 use Rattle.account.specs.declared.call.Call.TheVariants.{Place, Cancel, Fill, Deposit, Withdraw, Margin}
@@ -190,21 +190,21 @@ module _ (s : State) (bounds : InBounds s) where
       cheap : nat_abs price ≤ 10000000
       cheap = let parts = and_parts _ _ (passed (price_fits price) BadPrice h.1.0) in in_size price 10000000 (at_most (pos 0) price parts.0) (at_most price (pos 10000000) parts.1)
 
-  pub place_bounded : (lineNo quantity limit : ℤ) → NoneRefuses (bound_checks s lineNo quantity limit) → InBounds (placed s lineNo quantity limit)
-  place_bounded lineNo quantity limit h = record {
+  pub place_bounded : (line_no quantity limit : ℤ) → NoneRefuses (bound_checks s line_no quantity limit) → InBounds (placed s line_no quantity limit)
+  place_bounded line_no quantity limit h = record {
     a_position_a_line = bounds.a_position_a_line;
     a_count_a_line = length-set s.accepted _ _ ∙ bounds.a_count_a_line;
-    few_orders = rw (length-append s.orders (new_order s lineNo quantity limit ∷ [])) (one_more (ltb-true _ _ (passed _ OrdersFull h.1.1.1.0)));
-    each_order = All-push _ s.orders (new_order s lineNo quantity limit) (All-weaker _ _ (λ o b. record { of_a_line = b.of_a_line; numbered_from_1 = b.numbered_from_1; numbered_before = later b.numbered_before; something_left = b.something_left; not_much_left = b.not_much_left; limit_low = b.limit_low; limit_high = b.limit_high }) s.orders bounds.each_order) new;
-    numbers_ascend = ascending_push s.orders (new_order s lineNo quantity limit) (All-weaker _ _ (λ o b. b.numbered_before) s.orders bounds.each_order) bounds.numbers_ascend;
-    each_line = λ l less. place_line s lineNo quantity limit (passed _ NetTooLarge h.1.1.1.1.0) (leb-true _ _ (passed _ TooManyContracts h.1.1.1.1.1.0)) l (rw bounds.a_count_a_line less) (bounds.each_line l less);
+    few_orders = rw (length-append s.orders (new_order s line_no quantity limit ∷ [])) (one_more (ltb-true _ _ (passed _ OrdersFull h.1.1.1.0)));
+    each_order = All-push _ s.orders (new_order s line_no quantity limit) (All-weaker _ _ (λ o b. record { of_a_line = b.of_a_line; numbered_from_1 = b.numbered_from_1; numbered_before = later b.numbered_before; something_left = b.something_left; not_much_left = b.not_much_left; limit_low = b.limit_low; limit_high = b.limit_high }) s.orders bounds.each_order) new;
+    numbers_ascend = ascending_push s.orders (new_order s line_no quantity limit) (All-weaker _ _ (λ o b. b.numbered_before) s.orders bounds.each_order) bounds.numbers_ascend;
+    each_line = λ l less. place_line s line_no quantity limit (passed _ NetTooLarge h.1.1.1.1.0) (leb-true _ _ (passed _ TooManyContracts h.1.1.1.1.1.0)) l (rw bounds.a_count_a_line less) (bounds.each_line l less);
     next_from_1 = later bounds.next_from_1;
-    few_numbers = rw (summed_set s.accepted (named lineNo) (nat_abs quantity) (rw bounds.a_count_a_line inside)) (numbers _ _ _ some bounds.few_numbers);
+    few_numbers = rw (summed_set s.accepted (named line_no) (nat_abs quantity) (rw bounds.a_count_a_line inside)) (numbers _ _ _ some bounds.few_numbers);
     collateral_bounded = bounds.collateral_bounded;
   }
     where
-      inside : named lineNo < length s.cards.lines
-      inside = one_of _ lineNo (passed _ NoSuchLine h.0)
+      inside : named line_no < length s.cards.lines
+      inside = one_of _ line_no (passed _ NoSuchLine h.0)
 
       sized : (pos 1 ≤ℤ pos (nat_abs quantity)) × (pos (nat_abs quantity) ≤ℤ pos 10000)
       sized = let parts = and_parts _ _ (passed _ BadQuantity h.1.0) in (at_most _ _ parts.0, at_most _ _ parts.1)
@@ -224,7 +224,7 @@ module _ (s : State) (bounds : InBounds s) where
       numbers : (next sum n : ℕ) → 1 ≤ n → next ≤ suc sum → suc next ≤ suc (sum + n)
       numbers next sum n h k = omega arith
 
-      new : OrderInBounds (length s.cards.lines) (suc s.next) (new_order s lineNo quantity limit)
+      new : OrderInBounds (length s.cards.lines) (suc s.next) (new_order s line_no quantity limit)
       new = let parts = and_parts _ _ (passed (price_fits limit) BadPrice h.1.1.0) in record { of_a_line = inside; numbered_from_1 = bounds.next_from_1; numbered_before = omega arith; something_left = some; not_much_left = down (nat_abs quantity) 10000 sized.1; limit_low = at_most (pos 0) limit parts.0; limit_high = at_most limit (pos 10000000) parts.1 }
 
   -- where the collateral alone changes, each line is as it was

@@ -9,11 +9,11 @@ use Rattle.margin.specs.declared.book.Position.{Position}
 use Rattle.margin.specs.declared.book.Open.{Open}
 use Rattle.margin.specs.Book.{position, order, over_orders}
 use Rattle.margin.specs.Cells.{position_result, order_result, buys, sells}
-use Rattle.account.specs.declared.order.Order.{Order}
-use Rattle.account.specs.declared.order.OrderState.{OrderState}
-use Rattle.account.specs.declared.order.OrderState.TheVariants.{Untouched, PartlyFilled, Gone}
-use Rattle.account.specs.declared.order.Event.{Event}
-use Rattle.account.specs.declared.order.Event.TheVariants.{Filled, Cancelled}
+use Rattle.account.specs.declared.orders.Order.{Order}
+use Rattle.account.specs.declared.orders.OrderState.{OrderState}
+use Rattle.account.specs.declared.orders.OrderState.TheVariants.{Untouched, PartlyFilled, Gone}
+use Rattle.account.specs.declared.orders.Event.{Event}
+use Rattle.account.specs.declared.orders.Event.TheVariants.{Filled, Cancelled}
 use Rattle.account.specs.Orders.{signed, left_after, state_after, order_after, is_gone, found, orders_after}
 use Rattle.account.specs.Account.{State, book_of, moved, filled, cancelled, no_worse}
 use Rattle.account.proofs.Products.{OneSide}

@@ -14,10 +14,10 @@ use Rattle.margin.specs.Book.{Cards, named, line, is_future}
 use Rattle.margin.proofs.SumLaws.{at_most}
 use Rattle.deck.specs.Judgements.{family_fits, basket_fits, month_fits, line_fits, held_fits, along, first_unfit, no_line}
 use Rattle.deck.proofs.Facts.{along_none}
-use Rattle.account.specs.declared.order.Order.{Order}
+use Rattle.account.specs.declared.orders.Order.{Order}
 use Rattle.account.specs.declared.call.Call.{Call}
 use Rattle.account.specs.declared.call.Call.TheVariants.{Place, Cancel, Fill, Deposit, Withdraw, Margin}
-use Rattle.account.specs.declared.order.Event.TheVariants.{Filled}
+use Rattle.account.specs.declared.orders.Event.TheVariants.{Filled}
 use Rattle.account.specs.Orders.{found, left_after}
 use Rattle.account.specs.Account.{State, Answer, last_of, book_of, margin_of, quantity_fits, StillLeft, order_checks, on_order, checks, fill_checks, step, run, cancelled, filled, placed, with_collateral}
 use Rattle.account.specs.Begin.{held_at, nothing, put_in, first_state, begin_checks, begin}
@@ -70,8 +70,8 @@ module _ (s : State) (kept : Kept s) where
   fill_or_cancel_lowers Margin e = absurd (false≢true e)
 
   -- ---- every call
-  place_keeps : (lineNo quantity limit : ℤ) → NoneRefuses (checks s (Place lineNo quantity limit)) → Kept (placed s lineNo quantity limit)
-  place_keeps lineNo quantity limit h = record { a_position_a_line = kept.a_position_a_line; rates_rise = kept.rates_rise; covers = leb-true _ _ (passed _ NotCovered h.1.1.1.1.1.1.0) }
+  place_keeps : (line_no quantity limit : ℤ) → NoneRefuses (checks s (Place line_no quantity limit)) → Kept (placed s line_no quantity limit)
+  place_keeps line_no quantity limit h = record { a_position_a_line = kept.a_position_a_line; rates_rise = kept.rates_rise; covers = leb-true _ _ (passed _ NotCovered h.1.1.1.1.1.1.0) }
 
   withdraw_keeps : (amount : ℤ) → NoneRefuses (checks s (Withdraw amount)) → Kept (with_collateral s (s.collateral - nat_abs amount))
   withdraw_keeps amount h = record { a_position_a_line = kept.a_position_a_line; rates_rise = kept.rates_rise; covers = less (margin_of s) (nat_abs amount) s.collateral (leb-true _ _ (passed _ NotCovered h.1.0)) }

@@ -12,8 +12,8 @@ use Rattle.margin.specs.declared.book.Open.{Open}
 use Rattle.margin.specs.Book.{position, named}
 use Rattle.margin.specs.Cells.{buys, sells}
 use Rattle.margin.proofs.SumLaws.{≤ℤ-trans, at_most}
-use Rattle.account.specs.declared.order.Order.{Order}
-use Rattle.account.specs.declared.order.Event.TheVariants.{Filled}
+use Rattle.account.specs.declared.orders.Order.{Order}
+use Rattle.account.specs.declared.orders.Event.TheVariants.{Filled}
 use Rattle.account.specs.Orders.{signed, found}
 use Rattle.account.specs.Account.{State, book_of, no_worse, filled, cancelled, placed, new_order, net_fits}
 use Rattle.account.specs.Bounds.{dearest, LineInBounds}
@@ -136,29 +136,29 @@ module _ (s : State) (number quantity price : ℤ) (o : Order) (is : found numbe
       by false e = cost_stays (position (book_of s) l).cost (position (book_of after) l).cost (buys (book_of s) l +ℤ sells (book_of s) l) (buys (book_of after) l +ℤ sells (book_of after) l) (dearest * (10000 + get_or s.accepted l 0)) (ap (λ (p : Position). p.cost) (position_off s number quantity price o is low high fair l e)) (open_off e) bound.cost_bounded
 
 -- ---- a placed order
-module _ (s : State) (lineNo quantity limit : ℤ) (fits : net_fits (book_of (placed s lineNo quantity limit)) (named lineNo) ≡ true) (few : get_or (placed s lineNo quantity limit).accepted (named lineNo) 0 ≤ 20000) where
+module _ (s : State) (line_no quantity limit : ℤ) (fits : net_fits (book_of (placed s line_no quantity limit)) (named line_no) ≡ true) (few : get_or (placed s line_no quantity limit).accepted (named line_no) 0 ≤ 20000) where
   abbrev with_it : State
-  with_it = placed s lineNo quantity limit
+  with_it = placed s line_no quantity limit
 
   -- what the new order adds to a line
   abbrev added : ℕ → (Open → ℤ) → ℤ
-  added l part = of_one l part (new_order s lineNo quantity limit).rest
+  added l part = of_one l part (new_order s line_no quantity limit).rest
 
   buys_more : (l : ℕ) → buys (book_of with_it) l ≡ buys (book_of s) l +ℤ added l buy_part
-  buys_more l = buys_are with_it l ∙ sum_more (of_one l buy_part) s.orders (new_order s lineNo quantity limit) ∙ ap (λ (z : ℤ). z +ℤ added l buy_part) (sym (buys_are s l))
+  buys_more l = buys_are with_it l ∙ sum_more (of_one l buy_part) s.orders (new_order s line_no quantity limit) ∙ ap (λ (z : ℤ). z +ℤ added l buy_part) (sym (buys_are s l))
 
   sells_more : (l : ℕ) → sells (book_of with_it) l ≡ sells (book_of s) l +ℤ added l sell_part
-  sells_more l = sells_are with_it l ∙ sum_more (of_one l sell_part) s.orders (new_order s lineNo quantity limit) ∙ ap (λ (z : ℤ). z +ℤ added l sell_part) (sym (sells_are s l))
+  sells_more l = sells_are with_it l ∙ sum_more (of_one l sell_part) s.orders (new_order s line_no quantity limit) ∙ ap (λ (z : ℤ). z +ℤ added l sell_part) (sym (sells_are s l))
 
-  added_off : (l : ℕ) (part : Open → ℤ) → eqb (named lineNo) l ≡ false → added l part ≡ pos 0
+  added_off : (l : ℕ) (part : Open → ℤ) → eqb (named line_no) l ≡ false → added l part ≡ pos 0
   unfolding of_one
-  added_off l part e = ap (λ (on : Bool). elim on [ true ↦ part (new_order s lineNo quantity limit).rest | false ↦ pos 0 ]) e
+  added_off l part e = ap (λ (on : Bool). elim on [ true ↦ part (new_order s line_no quantity limit).rest | false ↦ pos 0 ]) e
 
-  added_on : (part : Open → ℤ) → added (named lineNo) part ≡ part (new_order s lineNo quantity limit).rest
+  added_on : (part : Open → ℤ) → added (named line_no) part ≡ part (new_order s line_no quantity limit).rest
   unfolding of_one
-  added_on part = ap (λ (on : Bool). elim on [ true ↦ part (new_order s lineNo quantity limit).rest | false ↦ pos 0 ]) (eq-eqb (named lineNo) (named lineNo) refl)
+  added_on part = ap (λ (on : Bool). elim on [ true ↦ part (new_order s line_no quantity limit).rest | false ↦ pos 0 ]) (eq-eqb (named line_no) (named line_no) refl)
 
-  place_off : (l : ℕ) → eqb (named lineNo) l ≡ false → LineInBounds s l → LineInBounds with_it l
+  place_off : (l : ℕ) → eqb (named line_no) l ≡ false → LineInBounds s l → LineInBounds with_it l
   place_off l off bound = record {
     may_hold = subst (λ (b : ℤ). ((position (book_of s) l).net +ℤ b) ≤ℤ pos 10000) (sym same_buys) bound.may_hold;
     may_be_short = subst (λ (b : ℤ). (b -ℤ (position (book_of s) l).net) ≤ℤ pos 10000) (sym same_sells) bound.may_be_short;
@@ -173,21 +173,21 @@ module _ (s : State) (lineNo quantity limit : ℤ) (fits : net_fits (book_of (pl
       same_sells = sells_more l ∙ ap (λ (z : ℤ). sells (book_of s) l +ℤ z) (added_off l sell_part off) ∙ +ℤ_idr (sells (book_of s) l)
 
       same_count : get_or with_it.accepted l 0 ≡ get_or s.accepted l 0
-      same_count = get_or-set_other s.accepted (named lineNo) l _ _ (λ e. eqb-false (named lineNo) l off (sym e))
+      same_count = get_or-set_other s.accepted (named line_no) l _ _ (λ e. eqb-false (named line_no) l off (sym e))
 
       less : (a b c d : ℤ) → a ≡ b → c ≡ d → (a +ℤ c) ≤ℤ (b +ℤ d)
       less a b c d e f = omega (arith, ints)
 
-  place_on : named lineNo < length s.accepted → LineInBounds s (named lineNo) → LineInBounds with_it (named lineNo)
+  place_on : named line_no < length s.accepted → LineInBounds s (named line_no) → LineInBounds with_it (named line_no)
   place_on inside bound = record {
     may_hold = at_most _ _ (and_parts _ _ fits).0;
     may_be_short = at_most _ _ (and_parts _ _ fits).1;
     few_accepted = few;
-    cost_bounded = rw count_more (linear (buys (book_of s) (named lineNo)) (sells (book_of s) (named lineNo)) _ _ (int_max (pos 0) quantity) (int_max (pos 0) (neg_ℤ quantity)) _ _ _ (buys_more (named lineNo) ∙ ap (λ (z : ℤ). buys (book_of s) (named lineNo) +ℤ z) (added_on buy_part)) (sells_more (named lineNo) ∙ ap (λ (z : ℤ). sells (book_of s) (named lineNo) +ℤ z) (added_on sell_part)) (open_size quantity) bound.cost_bounded);
+    cost_bounded = rw count_more (linear (buys (book_of s) (named line_no)) (sells (book_of s) (named line_no)) _ _ (int_max (pos 0) quantity) (int_max (pos 0) (neg_ℤ quantity)) _ _ _ (buys_more (named line_no) ∙ ap (λ (z : ℤ). buys (book_of s) (named line_no) +ℤ z) (added_on buy_part)) (sells_more (named line_no) ∙ ap (λ (z : ℤ). sells (book_of s) (named line_no) +ℤ z) (added_on sell_part)) (open_size quantity) bound.cost_bounded);
   }
     where
-      count_more : get_or with_it.accepted (named lineNo) 0 ≡ get_or s.accepted (named lineNo) 0 + nat_abs quantity
-      count_more = get_or-set_same s.accepted (named lineNo) _ _ inside
+      count_more : get_or with_it.accepted (named line_no) 0 ≡ get_or s.accepted (named line_no) 0 + nat_abs quantity
+      count_more = get_or-set_same s.accepted (named line_no) _ _ inside
 
       linear : (b c b' c' p q : ℤ) (x n a : ℕ) → b' ≡ b +ℤ p → c' ≡ c +ℤ q → p +ℤ q ≡ pos n → (pos x +ℤ pos dearest *ℤ (b +ℤ c)) ≤ℤ pos (dearest * (10000 + a)) → (pos x +ℤ pos dearest *ℤ (b' +ℤ c')) ≤ℤ pos (dearest * (10000 + (a + n)))
       linear b c b' c' p q x n a e f g h =
@@ -199,8 +199,8 @@ module _ (s : State) (lineNo quantity limit : ℤ) (fits : net_fits (book_of (pl
           finish after before d h = omega (arith, ints)
 
   pub place_line : (l : ℕ) → l < length s.accepted → LineInBounds s l → LineInBounds with_it l
-  place_line l inside bound = by (eqb (named lineNo) l) refl
+  place_line l inside bound = by (eqb (named line_no) l) refl
     where
-      by : (on : Bool) → eqb (named lineNo) l ≡ on → LineInBounds with_it l
-      by true e = let same = eqb-true (named lineNo) l e in subst (LineInBounds with_it) same (place_on (rw same inside) (rw same bound))
+      by : (on : Bool) → eqb (named line_no) l ≡ on → LineInBounds with_it l
+      by true e = let same = eqb-true (named line_no) l e in subst (LineInBounds with_it) same (place_on (rw same inside) (rw same bound))
       by false e = place_off l e bound

@@ -6,7 +6,7 @@ use base.Stored.{coded_ℕ}
 use denote.Struct.Props.{≡_prop, ≤ℤ_prop}
 use Rattle.std.specs.List.{AllByRecursion as All}
 use Rattle.banks.specs.Meanings.{Meaning}
-use Rattle.account.specs.declared.order.Order.{Order}
+use Rattle.account.specs.declared.orders.Order.{Order}
 use Rattle.account.specs.Account.{State}
 use Rattle.account.specs.Bounds.{OrderInBounds, Ascending, LineInBounds, InBounds}
 

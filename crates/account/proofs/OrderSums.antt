@@ -5,8 +5,8 @@ use Rattle.margin.specs.declared.book.Position.{Position}
 use Rattle.margin.specs.declared.book.Open.{Open}
 use Rattle.margin.specs.Sums.{total}
 use Rattle.margin.specs.Book.{names, order, of_line, over_orders}
-use Rattle.account.specs.declared.order.Order.{Order}
-use Rattle.account.specs.declared.order.Event.{Event}
+use Rattle.account.specs.declared.orders.Order.{Order}
+use Rattle.account.specs.declared.orders.Event.{Event}
 use Rattle.account.specs.Orders.{order_after, is_gone, found, kept, orders_after}
 
 -- what an order adds to a sum over the orders of a line

@@ -15,9 +15,9 @@ use Rattle.margin.specs.Worlds.{World}
 use Rattle.margin.specs.HandedOut.{handed_out}
 use Rattle.margin.specs.LeastCover.{margin}
 use Rattle.deck.specs.Judgements.{name_fits}
-use Rattle.account.specs.declared.order.Order.{Order}
-use Rattle.account.specs.declared.order.OrderState.TheVariants.{Untouched}
-use Rattle.account.specs.declared.order.Event.TheVariants.{Filled, Cancelled}
+use Rattle.account.specs.declared.orders.Order.{Order}
+use Rattle.account.specs.declared.orders.OrderState.TheVariants.{Untouched}
+use Rattle.account.specs.declared.orders.Event.TheVariants.{Filled, Cancelled}
 use Rattle.account.specs.declared.call.Call.{Call}
 use Rattle.account.specs.declared.call.Call.TheVariants.{Place, Cancel, Fill, Deposit, Withdraw, Margin}
 use Rattle.account.specs.Orders.{signed, left_after, found, orders_after}

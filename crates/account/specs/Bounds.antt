@@ -5,7 +5,7 @@ use Rattle.terms.specs.declared.cards.Held.{Held}
 use Rattle.banks.specs.Meanings.{Meaning}
 use Rattle.margin.specs.Book.{Cards, position}
 use Rattle.margin.specs.Cells.{buys, sells}
-use Rattle.account.specs.declared.order.Order.{Order}
+use Rattle.account.specs.declared.orders.Order.{Order}
 use Rattle.account.specs.declared.call.Call.{Call}
 use Rattle.account.specs.Account.{State, book_of, most_collateral, run}
 use Rattle.account.specs.Begin.{begin}

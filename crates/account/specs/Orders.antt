@@ -1,11 +1,11 @@
 -- What happens to an order, and to the list of open orders.
 use Rattle.std.specs.Prelude.{ℕ, Bool, true, false, List, [], ◌∷◌, ℤ, pos, ◌-ℤ◌, neg_ℤ, Some, None, Option, ◌==◌, int_le, unsigned_abs}
 use Rattle.margin.specs.Book.{names}
-use Rattle.account.specs.declared.order.Order.{Order}
-use Rattle.account.specs.declared.order.OrderState.{OrderState}
-use Rattle.account.specs.declared.order.OrderState.TheVariants.{Untouched, PartlyFilled, Gone}
-use Rattle.account.specs.declared.order.Event.{Event}
-use Rattle.account.specs.declared.order.Event.TheVariants.{Filled, Cancelled}
+use Rattle.account.specs.declared.orders.Order.{Order}
+use Rattle.account.specs.declared.orders.OrderState.{OrderState}
+use Rattle.account.specs.declared.orders.OrderState.TheVariants.{Untouched, PartlyFilled, Gone}
+use Rattle.account.specs.declared.orders.Event.{Event}
+use Rattle.account.specs.declared.orders.Event.TheVariants.{Filled, Cancelled}
 
 -- so many contracts with the sign of an order: a buy adds and a sell takes off
 unfoldable pub signed : ℤ → ℤ → ℤ

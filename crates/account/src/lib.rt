@@ -5,7 +5,7 @@ ghost use Rattle.account.specs.RefusedCalls.{RefusedCalls};
 ghost use Rattle.account.specs.Runs.{CallLaws, SafeAfterAnyCalls};
 
 pub mod call;
-pub mod order;
+pub mod orders;
 
 // The margins of small accounts after their calls, as the definitions give them.
 pub fn figures_hold() -> u8

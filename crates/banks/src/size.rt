@@ -1,6 +1,6 @@
 // Prices kept within a bound, for banks whose structs may hold any numbers.
 ghost use Rattle.std.specs.Prelude.{◌≡◌, ◌≤◌, min, unsigned_abs};
-ghost use Rattle.banks.specs.Meanings.{most_reach, capped as cappedAt};
+ghost use Rattle.banks.specs.Meanings.{most_reach, capped as capped_at};
 
 // The columns of a scenario grid.
 pub const COLUMNS: usize = 7;
@@ -13,7 +13,7 @@ pub const MOST_REACH: u64 = 2_000_000_000_000;
 
 // A price, or 0 where it is larger than a reach, or than any reach may be. No bank that is made has such a price.
 pub fn capped(reach: u64, price: i128) -> i64
-    ensures value { result ≡ cappedAt (min most_reach reach) price }
+    ensures value { result ≡ capped_at (min most_reach reach) price }
     ensures bounded { unsigned_abs result ≤ 2000000000000 }
 {
     if price.unsigned_abs() <= u128::from(reach.min(MOST_REACH)) {

@@ -4,7 +4,7 @@ ghost use Rattle.banks.specs.Meanings.{grains};
 ghost use Rattle.terms.specs.Checks.{MadeExactlyWhen};
 ghost use Rattle.banks.specs.Outcomes.{told};
 ghost use Rattle.banks.specs.Soundness.{bounded_sound};
-ghost use Rattle.banks.specs.Tables.{most_entry, listed, entry_at, entries as entryCount, fits_at, table_judged, table_made, table_meaning, MayTabulate};
+ghost use Rattle.banks.specs.Tables.{most_entry, listed, entry_at, entries as entry_count, fits_at, table_judged, table_made, table_meaning, MayTabulate};
 
 use crate::bank::Bank;
 use crate::size::{COLUMNS, MOST_LINES, capped};
@@ -112,7 +112,7 @@ fn judged(half: i64, lines: i64, entries: &[i64]) -> Result<Half, Refusal>
 // How many entries a table of so many lines has.
 fn length(half: Half, lines: usize) -> usize
     requires { lines ≤ 16 }
-    ensures { result ≡ entryCount half lines }
+    ensures { result ≡ entry_count half lines }
 {
     lines * COLUMNS * half.points()
 }

@@ -12,7 +12,7 @@ use Rattle.deck.specs.Decks.{DeckOutcome}
 use Rattle.deck.specs.Judgements.{first_unfit, counted, cards_judged}
 use Rattle.account.specs.Account.{State, amount_fits, covered}
 use Rattle.account.specs.Begin.{first_state, begin}
-use Rattle.calls.specs.declared.account.Account.{Account}
+use Rattle.calls.specs.declared.accounts.Account.{Account}
 use Rattle.calls.specs.Begun.{BeginOutcome, with_cards}
 
 -- two checks that decide first

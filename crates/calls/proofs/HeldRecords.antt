@@ -14,7 +14,7 @@ use Rattle.margin.proofs.SumLaws.{at_most}
 use Rattle.deck.specs.Judgements.{name_fits, is_first, held_fits}
 use Rattle.account.specs.Account.{price_fits}
 use Rattle.banks.specs.Meanings.{Meaning}
-use Rattle.account.specs.declared.order.Order.{Order}
+use Rattle.account.specs.declared.orders.Order.{Order}
 use Rattle.account.specs.Begin.{held_at, nothing, put_in, first_state}
 use Rattle.calls.specs.States.{state_with}
 use Rattle.calls.proofs.Placing.{price_fits_lem}

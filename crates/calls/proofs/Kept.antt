@@ -4,7 +4,7 @@ use Rattle.banks.specs.Meanings.{Meaning}
 use Rattle.account.specs.Account.{State}
 use Rattle.account.specs.Bounds.{InBounds}
 use Rattle.account.proofs.OneProof.{in_bounds_one, any_bank, over_bank}
-use Rattle.calls.specs.declared.account.Account.{Account}
+use Rattle.calls.specs.declared.accounts.Account.{Account}
 use Rattle.calls.specs.Accounts.{state_of}
 
 pub bounded : {B : Type 0} (meaning : B → Meaning) (a : Account B) → InBounds (state_of meaning a)

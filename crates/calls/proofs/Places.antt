@@ -6,8 +6,8 @@ use Rattle.terms.specs.Judging.{failing}
 use Rattle.std.specs.List.{remove}
 use Rattle.std.proofs.lemmas.List.{set_split, set-get_or, take-set-le, drop-set-lt, get_or-set_same}
 use Rattle.margin.specs.Book.{names}
-use Rattle.account.specs.declared.order.Order.{Order}
-use Rattle.account.specs.declared.order.Event.{Event}
+use Rattle.account.specs.declared.orders.Order.{Order}
+use Rattle.account.specs.declared.orders.Event.{Event}
 use Rattle.calls.specs.Accounts.{FirstAt, PlaceOf, none_open}
 use Rattle.account.specs.Orders.{order_after, is_gone, found, kept, orders_after}
 

@@ -10,8 +10,8 @@ use Rattle.margin.specs.declared.book.Open.{Open}
 use Rattle.margin.specs.Book.{Book, named}
 use Rattle.margin.proofs.SumLaws.{at_most}
 use Rattle.deck.specs.Judgements.{name_fits}
-use Rattle.account.specs.declared.order.Order.{Order}
-use Rattle.account.specs.declared.order.OrderState.TheVariants.{Untouched}
+use Rattle.account.specs.declared.orders.Order.{Order}
+use Rattle.account.specs.declared.orders.OrderState.TheVariants.{Untouched}
 use Rattle.account.specs.Account.{State, book_of, bound_checks, quantity_fits, price_fits, net_fits, covered, new_order, placed}
 use Rattle.calls.specs.States.{state_with}
 use Rattle.calls.specs.Accounts.{rest_of, first_of, book_with, trial_checks}

@@ -7,7 +7,7 @@ use Rattle.account.specs.declared.call.Call.TheVariants.{Margin}
 use Rattle.account.specs.Account as account
 use Rattle.account.specs.Account.{State, Required, requirement, step, run, answers}
 use Rattle.calls.specs.declared.answer.Answer.{Answer}
-use Rattle.calls.specs.Answers.{toldOf}
+use Rattle.calls.specs.Answers.{told_of}
 
 pub run_append : (s : State) (before after : List Call) → run s (before ++ after) ≡ run (run s before) after
 unfolding run
@@ -29,6 +29,6 @@ unfolding answers
 answers_more s calls i d inside = ap (answers s) (take_more calls i d inside) ∙ answers_append s (take i calls) (get_or calls i d ∷ [])
 
 -- what is told so far, and one answer more
-pub told_more : (before told : List (Result Answer Refusal)) (new : Result Answer Refusal) (so_far : List (Result account.Answer Refusal)) (answer : Result account.Answer Refusal) → map toldOf told ≡ map toldOf before ++ so_far → toldOf new ≡ answer → map toldOf (told ++ new ∷ []) ≡ map toldOf before ++ (so_far ++ answer ∷ [])
+pub told_more : (before told : List (Result Answer Refusal)) (new : Result Answer Refusal) (so_far : List (Result account.Answer Refusal)) (answer : Result account.Answer Refusal) → map told_of told ≡ map told_of before ++ so_far → told_of new ≡ answer → map told_of (told ++ new ∷ []) ≡ map told_of before ++ (so_far ++ answer ∷ [])
 told_more before told new so_far answer e f =
-    map-append toldOf told (new ∷ []) ∙ ap₂ (λ (front : List (Result account.Answer Refusal)) (x : Result account.Answer Refusal). front ++ x ∷ []) e f ∙ append_assoc (map toldOf before) so_far (answer ∷ [])
+    map-append told_of told (new ∷ []) ∙ ap₂ (λ (front : List (Result account.Answer Refusal)) (x : Result account.Answer Refusal). front ++ x ∷ []) e f ∙ append_assoc (map told_of before) so_far (answer ∷ [])

@@ -4,10 +4,10 @@ use lib.IntN.{+ℤ_idl}
 use lib.Signed.{le_z}
 use Rattle.std.proofs.lemmas.Int.{to_z-of_z}
 use Rattle.account.proofs.Lines.{size_add}
-use Rattle.account.specs.declared.order.Order.{Order}
-use Rattle.account.specs.declared.order.OrderState.{OrderState}
-use Rattle.account.specs.declared.order.Event.{Event}
-use Rattle.account.specs.declared.order.Event.TheVariants.{Filled, Cancelled}
+use Rattle.account.specs.declared.orders.Order.{Order}
+use Rattle.account.specs.declared.orders.OrderState.{OrderState}
+use Rattle.account.specs.declared.orders.Event.{Event}
+use Rattle.account.specs.declared.orders.Event.TheVariants.{Filled, Cancelled}
 use Rattle.calls.specs.Accounts.{SmallEvent}
 use Rattle.account.specs.Orders.{signed, left_after, state_after, order_after}
 

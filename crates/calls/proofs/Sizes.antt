@@ -6,7 +6,7 @@ use Rattle.std.proofs.lemmas.Bool.{cases_lt}
 use Rattle.margin.specs.declared.book.Position.{Position}
 use Rattle.margin.specs.declared.book.Open.{Open}
 use Rattle.cells.specs.Empty.{no_position, no_order}
-use Rattle.account.specs.declared.order.Order.{Order}
+use Rattle.account.specs.declared.orders.Order.{Order}
 use Rattle.account.specs.Account.{State}
 use Rattle.account.specs.Bounds.{InBounds, OrderInBounds}
 use Rattle.account.proofs.Lines.{in_size}

@@ -6,9 +6,9 @@ use Rattle.terms.specs.declared.refusal.Refusal.TheVariants.{BadQuantity, BadPri
 use Rattle.margin.specs.declared.book.Position.{Position}
 use Rattle.margin.specs.Book.{position}
 use Rattle.account.specs.declared.call.Call.TheVariants.{Cancel, Fill}
-use Rattle.account.specs.declared.order.Order.{Order}
-use Rattle.account.specs.declared.order.Event.{Event}
-use Rattle.account.specs.declared.order.Event.TheVariants.{Filled, Cancelled}
+use Rattle.account.specs.declared.orders.Order.{Order}
+use Rattle.account.specs.declared.orders.Event.{Event}
+use Rattle.account.specs.declared.orders.Event.TheVariants.{Filled, Cancelled}
 use Rattle.account.specs.Orders.{signed, left_after, order_after, kept, found, orders_after}
 use Rattle.std.proofs.lemmas.Int.{ints}
 use Rattle.std.proofs.lemmas.Bool.{and_parts}

@@ -7,16 +7,16 @@ use Rattle.banks.specs.Meanings.{Meaning}
 use Rattle.deck.specs.Decks.{deck_cards}
 use Rattle.margin.specs.declared.book.Open.{Open}
 use Rattle.account.specs.declared.call.Call.{Call}
-use Rattle.account.specs.declared.order.Order.{Order}
-use Rattle.account.specs.declared.order.OrderState.TheVariants.{Untouched}
-use Rattle.account.specs.declared.order.Event.{Event}
-use Rattle.account.specs.declared.order.Event.TheVariants.{Filled, Cancelled}
+use Rattle.account.specs.declared.orders.Order.{Order}
+use Rattle.account.specs.declared.orders.OrderState.TheVariants.{Untouched}
+use Rattle.account.specs.declared.orders.Event.{Event}
+use Rattle.account.specs.declared.orders.Event.TheVariants.{Filled, Cancelled}
 use Rattle.margin.specs.Book.{Book, names}
 use Rattle.margin.specs.LeastCover.{margin}
 use Rattle.cells.specs.Empty.{no_order}
 use Rattle.account.specs.Orders.{found}
 use Rattle.account.specs.Account.{State, Answer, last_of, net_fits, checks}
-use Rattle.calls.specs.declared.account.Account.{Account}
+use Rattle.calls.specs.declared.accounts.Account.{Account}
 use Rattle.calls.specs.States.{state_with}
 
 -- the state of an account, by the meaning of its bank

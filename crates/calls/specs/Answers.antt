@@ -9,21 +9,21 @@ use Rattle.calls.specs.declared.answer.Answer.{Answer}
 use Rattle.calls.specs.declared.answer.Answer.TheVariants.{Numbered, StillLeft, Ended, Collateral, Required}
 
 -- the families that there are
-abbrev pub familiesOf : List (Option FamilyWorst) → List (ℕ × ℕ)
-familiesOf [] = []
-familiesOf (None ∷ fs) = familiesOf fs
-familiesOf (Some f ∷ fs) = (f.loss, f.point) ∷ familiesOf fs
+abbrev pub families_of : List (Option FamilyWorst) → List (ℕ × ℕ)
+families_of [] = []
+families_of (None ∷ fs) = families_of fs
+families_of (Some f ∷ fs) = (f.loss, f.point) ∷ families_of fs
 
-abbrev pub requirementOf : Requirement → account.Requirement
-requirementOf r = record { amount = r.amount; families = familiesOf r.families; costliest = r.costliest; world = world_of r.world }
+abbrev pub requirement_of : Requirement → account.Requirement
+requirement_of r = record { amount = r.amount; families = families_of r.families; costliest = r.costliest; world = world_of r.world }
 
 abbrev pub answer_of : Answer → account.Answer
 answer_of (Numbered n) = account.Numbered n
 answer_of (StillLeft n) = account.StillLeft n
 answer_of (Ended n) = account.Ended n
 answer_of (Collateral n) = account.Collateral n
-answer_of (Required r) = account.Required (requirementOf r)
+answer_of (Required r) = account.Required (requirement_of r)
 
-abbrev pub toldOf : Result Answer Refusal → Result account.Answer Refusal
-toldOf (Ok answer) = Ok (answer_of answer)
-toldOf (Err why) = Err why
+abbrev pub told_of : Result Answer Refusal → Result account.Answer Refusal
+told_of (Ok answer) = Ok (answer_of answer)
+told_of (Err why) = Err why

@@ -10,7 +10,7 @@ use Rattle.margin.specs.Book.{Cards}
 use Rattle.terms.specs.declared.refusal.Refusal.TheVariants.{BadAmount, NotCovered}
 use Rattle.account.specs.Account.{State, amount_fits, covered}
 use Rattle.account.specs.Begin.{first_state}
-use Rattle.calls.specs.declared.account.Account.{Account}
+use Rattle.calls.specs.declared.accounts.Account.{Account}
 use Rattle.calls.specs.Accounts.{state_of}
 
 -- the account has the state that begins; a refusal is the one that applies; and where memory is wanting, no card is refused

@@ -3,7 +3,7 @@ use Rattle.std.specs.Prelude.{ℕ, List, vec_items}
 use Rattle.banks.specs.Meanings.{Meaning}
 use Rattle.margin.specs.declared.book.Position.{Position}
 use Rattle.margin.specs.Book.{Cards}
-use Rattle.account.specs.declared.order.Order.{Order}
+use Rattle.account.specs.declared.orders.Order.{Order}
 use Rattle.account.specs.Account.{State}
 
 abbrev pub state_with : Meaning → Cards → List Position → List Order → List ℕ → ℕ → ℕ → State

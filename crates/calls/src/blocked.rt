@@ -1,12 +1,12 @@
 // What must be blocked for an account, with the orders that are open or with others in their place.
 ghost use Rattle.std.specs.Prelude.{◌≡◌};
-ghost use Rattle.cells.specs.Books.{book_of as asBook};
+ghost use Rattle.cells.specs.Books.{book_of as as_book};
 ghost use Rattle.deck.specs.Decks.{deck_cards};
 ghost use Rattle.account.specs.Account.{book_of, margin_of};
 ghost use Rattle.calls.specs.Accounts.{state_of, SmallOrders};
 ghost use Rattle.calls.specs.Blockings.{BlockedFor};
 
-use crate::account::Account;
+use crate::accounts::Account;
 use crate::rests::rests;
 use banks::bank::Bank;
 use cells::book::Book;
@@ -17,7 +17,7 @@ impl<B: Bank> Account<B> {
     // The positions, with these orders in place of the open ones.
     pub(crate) fn book_with<'a>(&'a self, orders: &'a [Open]) -> Book<'a>
         requires { SmallOrders orders.now }
-        ensures { asBook result ≡ record { positions = self.now.positions.items; orders = orders.now } }
+        ensures { as_book result ≡ record { positions = self.now.positions.items; orders = orders.now } }
     {
         Book {
             positions: self.positions.as_slice(),

@@ -4,7 +4,7 @@ ghost use Rattle.account.specs.declared.call.Call.TheVariants.{Deposit, Withdraw
 ghost use Rattle.account.specs.Account.{Collateral, margin_of, checks, step};
 ghost use Rattle.calls.specs.Accounts.{state_of, first_of, told_as};
 
-use crate::account::Account;
+use crate::accounts::Account;
 use crate::size::size;
 use banks::bank::Bank;
 use terms::cards::between;

@@ -1,5 +1,5 @@
 // The account as a program: how it begins, the six calls, and runs of them.
-pub mod account;
+pub mod accounts;
 pub mod answer;
 mod blocked;
 mod cash;

@@ -3,10 +3,10 @@ ghost use Rattle.std.specs.Prelude.{◌≡◌, ◌<◌, ◌≤◌, true, false, 
 ghost use Rattle.account.specs.declared.call.Call.TheVariants.{Margin};
 ghost use Rattle.account.specs.Account.{Required, step};
 ghost use Rattle.calls.specs.Accounts.{state_of};
-ghost use Rattle.calls.specs.Answers.{requirementOf};
+ghost use Rattle.calls.specs.Answers.{requirement_of};
 ghost use Rattle.calls.specs.Safety.{SafeIfReached};
 
-use crate::account::Account;
+use crate::accounts::Account;
 use crate::answer::{FamilyWorst, Requirement};
 use banks::bank::Bank;
 use cover::Blocked;
@@ -31,8 +31,8 @@ impl<B: Bank> Account<B> {
     // The least whole number of kopecks that no world's loss exceeds, what each family loses, the costliest family, and a world
     // in which no less is lost than in any. It is never refused, and changes nothing.
     pub fn margin(&self) -> Requirement
-        ensures answer { step (state_of B.Bank.meaning self.now) Margin ≡ (state_of B.Bank.meaning self.now, Ok (Required (requirementOf result))) }
-        ensures safe { SafeIfReached (state_of B.Bank.meaning self.now) (requirementOf result) }
+        ensures answer { step (state_of B.Bank.meaning self.now) Margin ≡ (state_of B.Bank.meaning self.now, Ok (Required (requirement_of result))) }
+        ensures safe { SafeIfReached (state_of B.Bank.meaning self.now) (requirement_of result) }
     {
         let blocked = self.blocked();
         let count = self.deck.families.len();

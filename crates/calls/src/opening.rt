@@ -7,7 +7,7 @@ ghost use Rattle.account.specs.Begin.{held_at, nothing, put_in, first_state, beg
 ghost use Rattle.calls.specs.Accounts.{state_of};
 ghost use Rattle.calls.specs.Begun.{BeginOutcome, CoverOutcome, with_cards};
 
-use crate::account::Account;
+use crate::accounts::Account;
 use crate::size::size;
 use crate::trades::paid;
 use banks::bank::Bank;

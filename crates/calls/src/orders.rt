@@ -1,11 +1,11 @@
 // What happens to an order, and to the list of open orders.
 ghost use Rattle.std.specs.Prelude.{◌≡◌, suc, ◌<◌, ◌≤◌, not, ◌++◌, length, get_or, take, drop, vec_capacity, slice_index_or, unsigned_abs};
 ghost use Rattle.margin.specs.Book.{names};
-ghost use Rattle.account.specs.Orders.{signed, left_after, fill_state, state_after, order_after, is_gone as goneOf, kept as keptOf};
+ghost use Rattle.account.specs.Orders.{signed, left_after, fill_state, state_after, order_after, is_gone as gone_of, kept as kept_of};
 ghost use Rattle.calls.specs.Accounts.{SmallEvent, PlaceOf, none_open};
 
 use crate::size::size;
-use account::order::{Event, Order, OrderState};
+use account::orders::{Event, Order, OrderState};
 use terms::judge::{Judge, first_failing};
 
 // So many contracts with the sign of an order.
@@ -43,7 +43,7 @@ fn state_after(state: OrderState, event: Event, left: u64) -> OrderState
 }
 
 fn is_gone(state: OrderState) -> bool
-    ensures { result ≡ goneOf state }
+    ensures { result ≡ gone_of state }
 {
     match state {
         OrderState::Untouched => false,
@@ -77,7 +77,7 @@ fn meet(order: &mut Order, event: Event)
 // The order at a place leaves the list if it is gone.
 fn settle(orders: &mut Vec<Order>, place: usize)
     requires { place < length orders.old.items }
-    ensures items { orders.new.items ≡ take place orders.old.items ++ keptOf (slice_index_or orders.old.items place none_open) (drop (suc place) orders.old.items) }
+    ensures items { orders.new.items ≡ take place orders.old.items ++ kept_of (slice_index_or orders.old.items place none_open) (drop (suc place) orders.old.items) }
     ensures capacity { vec_capacity orders.new ≡ vec_capacity orders.old }
 {
     if is_gone(orders[place].state) {
@@ -90,7 +90,7 @@ pub(crate) fn meet_at(orders: &mut Vec<Order>, place: usize, event: Event) -> u6
     requires place { place < length orders.old.items }
     requires small { unsigned_abs (get_or orders.old.items place none_open).rest.left ≤ 10000 }
     requires event { SmallEvent event }
-    ensures items { orders.new.items ≡ take place orders.old.items ++ keptOf (order_after event (slice_index_or orders.old.items place none_open)) (drop (suc place) orders.old.items) }
+    ensures items { orders.new.items ≡ take place orders.old.items ++ kept_of (order_after event (slice_index_or orders.old.items place none_open)) (drop (suc place) orders.old.items) }
     ensures capacity { vec_capacity orders.new ≡ vec_capacity orders.old }
     ensures left { result ≡ unsigned_abs (order_after event (slice_index_or orders.old.items place none_open)).rest.left }
 {

@@ -3,14 +3,14 @@ ghost use Rattle.std.specs.Prelude.{◌≡◌, ◌+◌, ◌<◌, ◌≤◌, ◌�
 ghost use Rattle.terms.specs.Checks.{unless};
 ghost use Rattle.terms.specs.declared.refusal.Refusal.TheVariants.{OrdersFull};
 ghost use Rattle.account.specs.declared.call.Call.TheVariants.{Place};
-ghost use Rattle.cells.specs.Books.{book_of as asBook};
-ghost use Rattle.account.specs.Account.{Numbered, quantity_fits, net_fits, bound_checks, checks, placed as placedIn, step};
+ghost use Rattle.cells.specs.Books.{book_of as as_book};
+ghost use Rattle.account.specs.Account.{Numbered, quantity_fits, net_fits, bound_checks, checks, placed as placed_in, step};
 ghost use Rattle.calls.specs.Accounts.{state_of, first_of, told_as, margin_with, book_with, trial_checks, SmallOrders};
 
-use crate::account::Account;
+use crate::accounts::Account;
 use crate::rests::rests;
 use crate::size::size;
-use account::order::{Order, OrderState};
+use account::orders::{Order, OrderState};
 use banks::bank::Bank;
 use cells::book::Book;
 use cells::open::{open_buys, open_sells};
@@ -55,7 +55,7 @@ fn quantity_fits(contracts: u64) -> bool
 // Whether neither what a line may come to hold, nor what it may come to be short of, is too large.
 fn net_fits(book: Book, line: usize) -> bool
     requires { line < length book.positions.now }
-    ensures { result ≡ net_fits (asBook book.entry) line }
+    ensures { result ≡ net_fits (as_book book.entry) line }
 {
     let net = book.positions[line].net;
     net + open_buys(book, line) <= MOST_NET && open_sells(book, line) - net <= MOST_NET
@@ -73,7 +73,7 @@ impl<B: Bank> Account<B> {
 
     // Whether the collateral covers a book.
     fn covers<'a>(&'a self, book: Book<'a>) -> bool
-        ensures { result ≡ nat_le (margin_with (state_of B.Bank.meaning self.now) (asBook book.entry)) self.now.collateral }
+        ensures { result ≡ nat_le (margin_with (state_of B.Bank.meaning self.now) (as_book book.entry)) self.now.collateral }
     {
         margin(&self.bank, &self.deck, book).amount <= self.collateral
     }
@@ -138,7 +138,7 @@ impl<B: Bank> Account<B> {
     // The order goes to the end of the list.
     fn placed(&mut self, order: Open) -> u64
         requires { first_of (bound_checks (state_of B.Bank.meaning self.old) (pos order.line) order.left order.limit) ≡ None }
-        ensures state { state_of B.Bank.meaning self.new ≡ placedIn (state_of B.Bank.meaning self.old) (pos order.line) order.left order.limit }
+        ensures state { state_of B.Bank.meaning self.new ≡ placed_in (state_of B.Bank.meaning self.old) (pos order.line) order.left order.limit }
         ensures number { result ≡ self.old.next }
     {
         let number = self.next;

@@ -2,7 +2,7 @@
 ghost use Rattle.std.specs.Prelude.{◌≡◌, ◌≤◌, map, length, take};
 ghost use Rattle.calls.specs.Accounts.{rest_of};
 
-use account::order::Order;
+use account::orders::Order;
 use margin::book::Open;
 
 const NO_ORDER: Open = Open {

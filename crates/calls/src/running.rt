@@ -5,10 +5,10 @@ ghost use Rattle.deck.specs.Judgements.{cards_judged};
 ghost use Rattle.account.specs.Account.{run as run_of, answers};
 ghost use Rattle.account.specs.Begin.{begin as begins};
 ghost use Rattle.calls.specs.Accounts.{state_of};
-ghost use Rattle.calls.specs.Answers.{toldOf};
+ghost use Rattle.calls.specs.Answers.{told_of};
 ghost use Rattle.calls.specs.Told.{RunOutcome, SafeOutcome};
 
-use crate::account::Account;
+use crate::accounts::Account;
 use crate::answer::Answer;
 use crate::opening::begin;
 use account::call::Call;
@@ -27,7 +27,7 @@ fn take_all<B: Bank>(
 )
     requires { vec_len told.old + length calls.now ≤ vec_capacity told.old }
     ensures state { state_of B.Bank.meaning account.new ≡ run_of (state_of B.Bank.meaning account.old) calls.now }
-    ensures told { map toldOf told.new.items ≡ map toldOf told.old.items ++ answers (state_of B.Bank.meaning account.old) calls.now }
+    ensures told { map told_of told.new.items ≡ map told_of told.old.items ++ answers (state_of B.Bank.meaning account.old) calls.now }
 {
     for call in calls {
         told.push_reserved(account.take(*call));
@@ -40,7 +40,7 @@ fn told_by<B: Bank + Drop>(
     account: Account<B>,
     calls: &[Call],
 ) -> Result<Vec<Result<Answer, Refusal>>, AllocError>
-    ensures { IfOk result (λ v. map toldOf v.items ≡ answers (state_of B.Bank.meaning account) calls.now) }
+    ensures { IfOk result (λ v. map told_of v.items ≡ answers (state_of B.Bank.meaning account) calls.now) }
 {
     match Vec::with_capacity(heap, calls.len()) {
         Err(wanting) => Err(wanting),

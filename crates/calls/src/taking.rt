@@ -3,16 +3,16 @@ ghost use Rattle.std.specs.Prelude.{◌≡◌};
 ghost use Rattle.account.specs.Account as account;
 ghost use Rattle.account.specs.Account.{step};
 ghost use Rattle.calls.specs.Accounts.{state_of, told_as};
-ghost use Rattle.calls.specs.Answers.{toldOf};
+ghost use Rattle.calls.specs.Answers.{told_of};
 
-use crate::account::Account;
+use crate::accounts::Account;
 use crate::answer::Answer;
 use account::call::Call;
 use banks::bank::Bank;
 use terms::refusal::Refusal;
 
 fn numbered(told: Result<u64, Refusal>) -> Result<Answer, Refusal>
-    ensures { toldOf result ≡ told_as account.Numbered told }
+    ensures { told_of result ≡ told_as account.Numbered told }
 {
     match told {
         Ok(number) => Ok(Answer::Numbered(number)),
@@ -21,7 +21,7 @@ fn numbered(told: Result<u64, Refusal>) -> Result<Answer, Refusal>
 }
 
 fn still_left(told: Result<u64, Refusal>) -> Result<Answer, Refusal>
-    ensures { toldOf result ≡ told_as account.StillLeft told }
+    ensures { told_of result ≡ told_as account.StillLeft told }
 {
     match told {
         Ok(left) => Ok(Answer::StillLeft(left)),
@@ -30,7 +30,7 @@ fn still_left(told: Result<u64, Refusal>) -> Result<Answer, Refusal>
 }
 
 fn ended(told: Result<u64, Refusal>) -> Result<Answer, Refusal>
-    ensures { toldOf result ≡ told_as account.Ended told }
+    ensures { told_of result ≡ told_as account.Ended told }
 {
     match told {
         Ok(size) => Ok(Answer::Ended(size)),
@@ -39,7 +39,7 @@ fn ended(told: Result<u64, Refusal>) -> Result<Answer, Refusal>
 }
 
 fn collateral(told: Result<u64, Refusal>) -> Result<Answer, Refusal>
-    ensures { toldOf result ≡ told_as account.Collateral told }
+    ensures { told_of result ≡ told_as account.Collateral told }
 {
     match told {
         Ok(amount) => Ok(Answer::Collateral(amount)),
@@ -50,7 +50,7 @@ fn collateral(told: Result<u64, Refusal>) -> Result<Answer, Refusal>
 impl<B: Bank> Account<B> {
     // The account takes a call: its answer, or the refusal that left the account as it was.
     pub fn take(&mut self, call: Call) -> Result<Answer, Refusal>
-        ensures { (state_of B.Bank.meaning self.new, toldOf result) ≡ step (state_of B.Bank.meaning self.old) call }
+        ensures { (state_of B.Bank.meaning self.new, told_of result) ≡ step (state_of B.Bank.meaning self.old) call }
     {
         match call {
             Call::Place {

@@ -3,13 +3,13 @@ ghost use Rattle.std.specs.Prelude.{◌≡◌, ◌≤◌, [], ◌∷◌, pos, �
 ghost use Rattle.terms.specs.Checks.{unless};
 ghost use Rattle.terms.specs.declared.refusal.Refusal.TheVariants.{MoreThanLeft, WorseThanLimit};
 ghost use Rattle.account.specs.declared.call.Call.TheVariants.{Cancel, Fill};
-ghost use Rattle.account.specs.Account.{Ended, StillLeft, no_worse, moved as movedBy, step};
+ghost use Rattle.account.specs.Account.{Ended, StillLeft, no_worse, moved as moved_by, step};
 ghost use Rattle.calls.specs.Accounts.{state_of, first_of, told_as, MayMeet};
 
-use crate::account::Account;
+use crate::accounts::Account;
 use crate::orders::{meet_at, place_of, with_sign_of};
 use crate::size::size;
-use account::order::Event;
+use account::orders::Event;
 use banks::bank::Bank;
 use margin::book::{Open, Position};
 use terms::cards::between;
@@ -71,7 +71,7 @@ fn moved(position: Position, contracts: i64, price: i64) -> Position
     requires cost { unsigned_abs position.cost ≤ 24000000000000000 }
     requires contracts { unsigned_abs contracts ≤ 10000 }
     requires price { unsigned_abs price ≤ 10000000 }
-    ensures { result ≡ movedBy position contracts price }
+    ensures { result ≡ moved_by position contracts price }
 {
     Position {
         net: position.net + contracts,

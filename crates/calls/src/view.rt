@@ -2,8 +2,8 @@
 ghost use Rattle.std.specs.Prelude.{◌≡◌};
 ghost use Rattle.calls.specs.Accounts.{state_of};
 
-use crate::account::Account;
-use account::order::Order;
+use crate::accounts::Account;
+use account::orders::Order;
 use banks::bank::Bank;
 use margin::book::Position;
 

@@ -2,7 +2,7 @@
 use crate::markets::{FUTURE, held};
 use crate::tables::Told;
 use banks::strip::Strip;
-use calls::account::Account;
+use calls::accounts::Account;
 use calls::opening::begin;
 use deck::given::Given;
 use std::alloc::Global;

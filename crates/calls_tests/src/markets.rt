@@ -1,7 +1,7 @@
 // The markets that the tests trade on.
 use crate::tables::{Step, Told, follow};
 use banks::strip::Strip;
-use calls::account::Account;
+use calls::accounts::Account;
 use calls::opening::begin;
 use deck::given::Given;
 use std::alloc::Global;

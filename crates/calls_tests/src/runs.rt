@@ -2,10 +2,10 @@
 use crate::markets::{FUTURE, NETTED, one_future};
 use crate::tables::{Step, Told, follow};
 use account::call::Call;
-use account::order::{Order, OrderState};
+use account::orders::{Order, OrderState};
 use banks::bank::Bank;
 use banks::strip::Strip;
-use calls::account::Account;
+use calls::accounts::Account;
 use calls::answer::Answer;
 use calls::running::run;
 use deck::given::Given;

@@ -1,8 +1,8 @@
 // Calls in tables, with what each is told. Along every table a refused call must leave all that the account shows as it was,
 // and no fill or cancel may raise the margin.
-use account::order::Order;
+use account::orders::Order;
 use banks::bank::Bank;
-use calls::account::Account;
+use calls::accounts::Account;
 use calls::answer::Requirement;
 use margin::book::Position;
 use std::process::Abort;

@@ -1,6 +1,6 @@
 // What a future is charged for the contracts that it may come to on one side.
 ghost use Rattle.std.specs.Prelude.{◌≡◌, ◌≤◌, true, pos, ◌+ℤ◌, ◌-ℤ◌, ◌*ℤ◌, unsigned_abs};
-ghost use Rattle.margin.specs.Cells.{above as aboveLimit, charge as chargeFor};
+ghost use Rattle.margin.specs.Cells.{above as above_limit, charge as charge_for};
 ghost use Rattle.terms.specs.Cards.{future_fits};
 
 use terms::cards::Line;
@@ -29,7 +29,7 @@ fn spotted(spot: i64, sum: i64) -> i64
 fn above(limit: i64, contracts: i64) -> i64
     requires limit { unsigned_abs limit ≤ 10000 }
     requires contracts { unsigned_abs contracts ≤ 330000 }
-    ensures value { result ≡ aboveLimit limit contracts }
+    ensures value { result ≡ above_limit limit contracts }
     ensures size { unsigned_abs result ≤ 340000 }
 {
     0i64.max(contracts - limit)
@@ -50,7 +50,7 @@ fn rise(lower: i64, upper: i64) -> i64
 fn steps(future: &Line, contracts: i64) -> i64
     requires future { future_fits future.now ≡ true }
     requires contracts { unsigned_abs contracts ≤ 330000 }
-    ensures value { result ≡ (future.now.rates.r2 -ℤ future.now.rates.r1) *ℤ aboveLimit future.now.limits.a contracts +ℤ (future.now.rates.r3 -ℤ future.now.rates.r2) *ℤ aboveLimit future.now.limits.b contracts }
+    ensures value { result ≡ (future.now.rates.r2 -ℤ future.now.rates.r1) *ℤ above_limit future.now.limits.a contracts +ℤ (future.now.rates.r3 -ℤ future.now.rates.r2) *ℤ above_limit future.now.limits.b contracts }
     ensures size { unsigned_abs result ≤ 6800000000 }
 {
     let second = rated(
@@ -77,7 +77,7 @@ fn eightfold(spot: i64) -> i64
 pub(crate) fn charge(future: &Line, contracts: i64) -> i64
     requires future { future_fits future.now ≡ true }
     requires contracts { unsigned_abs contracts ≤ 330000 }
-    ensures value { result ≡ chargeFor future.now contracts }
+    ensures value { result ≡ charge_for future.now contracts }
     ensures size { unsigned_abs result ≤ 544000000000000000 }
 {
     spotted(eightfold(future.spot), steps(future, contracts))

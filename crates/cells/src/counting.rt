@@ -1,8 +1,8 @@
 // In which cells of a world each open order is counted: where its month is kept, in each of the month's cells in which it loses.
 ghost use Rattle.std.specs.Prelude.{◌≡◌, ◌≤◌, false, pos, Some, None, int_lt, slice_index_or, unsigned_abs};
-ghost use Rattle.margin.specs.Book.{named, line as lineCard, month as monthCard};
+ghost use Rattle.margin.specs.Book.{named, line as line_card, month as month_card};
 ghost use Rattle.margin.specs.Cells.{order_result};
-ghost use Rattle.margin.specs.HandedOut.{loses as losesAt, loses_in, counted_at};
+ghost use Rattle.margin.specs.HandedOut.{loses as loses_at, loses_in, counted_at};
 ghost use Rattle.margin.specs.Worlds.{nowhere};
 ghost use Rattle.deck.specs.Decks.{deck_cards};
 ghost use Rattle.layers.specs.Rows.{Lists};
@@ -35,7 +35,7 @@ fn is_loss(order: Open, price: i64, k: usize) -> bool
 
 // The number of a line's month; a line that is not there is read as one of month 0.
 fn month_of(deck: &Deck, line: usize) -> usize
-    ensures { result ≡ named (lineCard (deck_cards deck.now) line).month }
+    ensures { result ≡ named (line_card (deck_cards deck.now) line).month }
 {
     if line < deck.lines.len() {
         number(deck.lines[line].month)
@@ -46,7 +46,7 @@ fn month_of(deck: &Deck, line: usize) -> usize
 
 // The number of a month's basket.
 fn basket_of(deck: &Deck, m: usize) -> usize
-    ensures { result ≡ named (monthCard (deck_cards deck.now) m).basket }
+    ensures { result ≡ named (month_card (deck_cards deck.now) m).basket }
 {
     if m < deck.months.len() {
         number(deck.months[m].basket)
@@ -73,7 +73,7 @@ impl<'a, B: Bank> Desk<'a, B> {
     fn loses(&self, order: Open, p: usize, k: usize) -> bool
         requires left { unsigned_abs order.left ≤ 10000 }
         requires limit { unsigned_abs order.limit ≤ 10000000 }
-        ensures { result ≡ losesAt (B.Bank.meaning self.now.bank.now).price order p k }
+        ensures { result ≡ loses_at (B.Bank.meaning self.now.bank.now).price order p k }
     {
         let price = self.price(order.line, p, k);
         is_loss(order, price, k)

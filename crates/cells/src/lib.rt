@@ -1,7 +1,7 @@
 // What fills a month's cells: what the positions and open orders of its lines come to in every scenario, less charges; and in
 // which cells of a world each open order is counted.
 ghost use Rattle.std.specs.Prelude.{◌≡◌};
-ghost use Rattle.margin.specs.Cells.{cells as cellsOfBook};
+ghost use Rattle.margin.specs.Cells.{cells as cells_of_book};
 ghost use Rattle.margin.specs.Worlds.{nowhere};
 ghost use Rattle.deck.specs.Decks.{deck_cards};
 ghost use Rattle.layers.specs.Rows.{Lists};
@@ -29,7 +29,7 @@ use margin::choice::{Counted, Kept};
 
 // The cells of every month at a bank's prices.
 pub fn month_cells<'a, B: Bank>(bank: &'a B, deck: &'a Deck, book: Book<'a>) -> MonthCells
-    ensures { table_cells (last_of (B.Bank.meaning bank.now)) (deck_cards deck.now) result.cells ≡ cellsOfBook (last_of (B.Bank.meaning bank.now)) (B.Bank.meaning bank.now).price (deck_cards deck.now) (book_of book.entry) }
+    ensures { table_cells (last_of (B.Bank.meaning bank.now)) (deck_cards deck.now) result.cells ≡ cells_of_book (last_of (B.Bank.meaning bank.now)) (B.Bank.meaning bank.now).price (deck_cards deck.now) (book_of book.entry) }
 {
     desk_for(bank, deck, book).table()
 }

@@ -2,7 +2,7 @@
 ghost use Rattle.std.specs.Prelude.{◌≡◌, ◌^◌, ◌<◌, ◌≤◌, true, false, pos, ◌+ℤ◌, ◌-ℤ◌, ◌==◌, unsigned_abs};
 ghost use Rattle.std.specs.Int.{int_min, int_max};
 ghost use Rattle.margin.specs.Book.{position as position_of, order as order_of, line as line_of, over_orders};
-ghost use Rattle.margin.specs.Cells.{position_result, order_result, charge as chargeFor, long_reach, short_reach, charged as chargedAt};
+ghost use Rattle.margin.specs.Cells.{position_result, order_result, charge as charge_for, long_reach, short_reach, charged as charged_at};
 ghost use Rattle.cells.specs.Books.{book_of};
 ghost use Rattle.deck.specs.Decks.{deck_cards};
 ghost use Rattle.terms.specs.Cards.{future_fits};
@@ -61,7 +61,7 @@ fn short_reach(book: Book, line: usize) -> i64
 
 // What a future is charged at a point and in a column: the long charge at the first point and the short charge at the last.
 fn charged(deck: &Deck, book: Book, last: usize, line: usize, point: usize, column: usize) -> i64
-    ensures value { result ≡ chargedAt last (deck_cards deck.now) (book_of book.entry) line point column }
+    ensures value { result ≡ charged_at last (deck_cards deck.now) (book_of book.entry) line point column }
     ensures size { unsigned_abs result ≤ 1088000000000000000 }
 {
     if line >= deck.futures {
@@ -85,7 +85,7 @@ fn future_card(deck: &Deck, line: usize) -> &Line
 // The charges of a future at a point.
 fn charges_at(future: &Line, book: Book, last: usize, line: usize, point: usize) -> i64
     requires { future_fits future.now ≡ true }
-    ensures value { result ≡ (elim (point == 0) [ true ↦ chargeFor future.now (long_reach (book_of book.entry) line) | false ↦ pos 0 ]) +ℤ (elim (point == last) [ true ↦ chargeFor future.now (short_reach (book_of book.entry) line) | false ↦ pos 0 ]) }
+    ensures value { result ≡ (elim (point == 0) [ true ↦ charge_for future.now (long_reach (book_of book.entry) line) | false ↦ pos 0 ]) +ℤ (elim (point == last) [ true ↦ charge_for future.now (short_reach (book_of book.entry) line) | false ↦ pos 0 ]) }
     ensures size { unsigned_abs result ≤ 1088000000000000000 }
 {
     let long = charge_if(future, point == 0, long_reach(book, line));
@@ -97,7 +97,7 @@ fn charges_at(future: &Line, book: Book, last: usize, line: usize, point: usize)
 fn charge_if(future: &Line, due: bool, contracts: i64) -> i64
     requires future { future_fits future.now ≡ true }
     requires contracts { unsigned_abs contracts ≤ 330000 }
-    ensures value { result ≡ elim due [ true ↦ chargeFor future.now contracts | false ↦ pos 0 ] }
+    ensures value { result ≡ elim due [ true ↦ charge_for future.now contracts | false ↦ pos 0 ] }
     ensures size { unsigned_abs result ≤ 544000000000000000 }
 {
     if due { charge(future, contracts) } else { 0 }
@@ -114,7 +114,7 @@ pub(crate) fn line_cell(
     price: i64,
 ) -> i64
     requires { unsigned_abs price ≤ 2000000000000 }
-    ensures value { result ≡ position_result (position_of (book_of book.entry) line) price column -ℤ chargedAt last (deck_cards deck.now) (book_of book.entry) line point column +ℤ over_orders (book_of book.entry) line (λ i. int_min (pos 0) (order_result (order_of (book_of book.entry) i) price column)) }
+    ensures value { result ≡ position_result (position_of (book_of book.entry) line) price column -ℤ charged_at last (deck_cards deck.now) (book_of book.entry) line point column +ℤ over_orders (book_of book.entry) line (λ i. int_min (pos 0) (order_result (order_of (book_of book.entry) i) price column)) }
     ensures size { unsigned_abs result ≤ 2 ^ 61 }
 {
     let held = position_result(position(book, line), price, column);

@@ -10,7 +10,7 @@ use Rattle.account.specs.Account as account
 use Rattle.account.specs.Account.{State}
 use Rattle.account.specs.Begin.{begin}
 use Rattle.calls.specs.declared.answer.Answer.{Answer}
-use Rattle.calls.specs.Answers.{toldOf}
+use Rattle.calls.specs.Answers.{told_of}
 use Rattle.calls.specs.Safety.{EveryMarginIsSafe}
 use Rattle.load.specs.declared.loading.Loaded.{Loaded}
 use Rattle.load.specs.Days.{Day, Contents, lengths_of, zeros}
@@ -91,13 +91,13 @@ module _ (text : List ℕ) (loaded : Loaded) (after : Contents) (h : ReadDay tex
   fault_said (Refused why) t = said_is ∙ ap (λ (told : Result (List (Result account.Answer Refusal)) Refusal). said_of h.day told) (ap day_told (sym h.used) ∙ t)
   fault_said Memory t = tt
 
-  pub told_said : (collateral : ℕ) (told : Vec (Result Answer Refusal) Global) → collateral ≡ nat_abs loaded.cash → ToldOutcome (Ok told) (day_told (used_day loaded after)) → session_told text ≡ Ok (collateral, map toldOf (vec_items told))
+  pub told_said : (collateral : ℕ) (told : Vec (Result Answer Refusal) Global) → collateral ≡ nat_abs loaded.cash → ToldOutcome (Ok told) (day_told (used_day loaded after)) → session_told text ≡ Ok (collateral, map told_of (vec_items told))
   told_said collateral told f t =
       said_is
       ∙ ap (λ (answers : Result (List (Result account.Answer Refusal)) Refusal). said_of h.day answers) (ap day_told (sym h.used) ∙ t)
-      ∙ ap (λ (n : ℕ). Ok (n, map toldOf (vec_items told))) (ap (λ (d : Day). nat_abs d.cash) (sym h.used) ∙ sym f)
+      ∙ ap (λ (n : ℕ). Ok (n, map told_of (vec_items told))) (ap (λ (d : Day). nat_abs d.cash) (sym h.used) ∙ sym f)
 
-  pub safe_said : (told : Vec (Result Answer Refusal) Global) → SafeOn (used_day loaded after) (bank_made (used_day loaded after)) (Ok told) → (day : Day) (bank : Meaning) (s : State) → loading wanted text ≡ Ok day → bank_made day ≡ Ok bank → begin bank (cards_of day) day.held day.cash ≡ Ok s → EveryMarginIsSafe s (calls_of day.orders) (map toldOf (vec_items told))
+  pub safe_said : (told : Vec (Result Answer Refusal) Global) → SafeOn (used_day loaded after) (bank_made (used_day loaded after)) (Ok told) → (day : Day) (bank : Meaning) (s : State) → loading wanted text ≡ Ok day → bank_made day ≡ Ok bank → begin bank (cards_of day) day.held day.cash ≡ Ok s → EveryMarginIsSafe s (calls_of day.orders) (map told_of (vec_items told))
   safe_said told safe day bank s is made begins =
       let read = h.read in
       let same : h.day ≡ day = cc in

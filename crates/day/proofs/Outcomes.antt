@@ -13,7 +13,7 @@ use Rattle.account.specs.Account as account
 use Rattle.account.specs.Account.{State, answers}
 use Rattle.account.specs.Begin.{begin}
 use Rattle.calls.specs.declared.answer.Answer.{Answer}
-use Rattle.calls.specs.Answers.{toldOf}
+use Rattle.calls.specs.Answers.{told_of}
 use Rattle.calls.specs.Safety.{EveryMarginIsSafe}
 use Rattle.calls.specs.Told.{RunOutcome, SafeOutcome}
 use Rattle.load.specs.Days.{Day}

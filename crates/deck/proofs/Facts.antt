@@ -30,14 +30,14 @@ along_none None count (Some k) e = absurd (some_is_none (count + k) e)
 
 -- ---- the facts
 
-pub record Facts (bankLines : ℕ) (cards : Cards) : Type 0 where
+pub record Facts (bank_lines : ℕ) (cards : Cards) : Type 0 where
   pub some_families : 1 ≤ length cards.families
   pub few_families : length cards.families ≤ 2
   pub few_baskets : length cards.baskets ≤ 4
   pub few_months : length cards.months ≤ 8
   pub some_lines : 1 ≤ length cards.lines
   pub few_lines : length cards.lines ≤ 16
-  pub bank_lines : length cards.lines ≡ bankLines
+  pub bank_lines : length cards.lines ≡ bank_lines
   pub few_futures : cards.futures ≤ length cards.lines
   pub baskets_named : (b : ℕ) → b < length cards.baskets → name_fits (length cards.families) (get_or cards.baskets b no_basket).family ≡ true
   pub months_named : (m : ℕ) → m < length cards.months → name_fits (length cards.baskets) (get_or cards.months m no_month).basket ≡ true
@@ -47,15 +47,15 @@ pub record Facts (bankLines : ℕ) (cards : Cards) : Type 0 where
 range : (low high n : ℕ) → within (pos low) (pos high) (pos n) ≡ true → (low ≤ n) × (n ≤ high)
 range low high n h = let t = and_parts (leb low n) (leb n high) h in (leb-true low n t.0, leb-true n high t.1)
 
-module _ (bankLines : ℕ) (cards : Cards) (held : List Held) where
-  pub none_refused : refusal_of (cards_judged bankLines cards held) ≡ None → cards_judged bankLines cards held ≡ Ok cards
+module _ (bank_lines : ℕ) (cards : Cards) (held : List Held) where
+  pub none_refused : refusal_of (cards_judged bank_lines cards held) ≡ None → cards_judged bank_lines cards held ≡ Ok cards
   none_refused e =
-      passed_as (refused_at BadCard (first_unfit cards held) ∷ unless (counted bankLines cards) WrongShape ∷ []) cards e
+      passed_as (refused_at BadCard (first_unfit cards held) ∷ unless (counted bank_lines cards) WrongShape ∷ []) cards e
 
-  pub facts : cards_judged bankLines cards held ≡ Ok cards → Facts bankLines cards
+  pub facts : cards_judged bank_lines cards held ≡ Ok cards → Facts bank_lines cards
   facts e =
       let fit = passed_places (first_unfit cards held) BadCard _ cards e in
-      let count = passed_unless (counted bankLines cards) WrongShape _ cards fit.1 in
+      let count = passed_unless (counted bank_lines cards) WrongShape _ cards fit.1 in
       let f = along_none _ (length cards.families) _ fit.0 in
       let b = along_none _ (length cards.baskets) _ f.1 in
       let m = along_none _ (length cards.months) _ b.1 in
@@ -75,7 +75,7 @@ module _ (bankLines : ℕ) (cards : Cards) (held : List Held) where
         few_months = (range 1 8 (length cards.months) upper.1).1;
         some_lines = lines.0;
         few_lines = lines.1;
-        bank_lines = eqb-true (length cards.lines) bankLines lined.1;
+        bank_lines = eqb-true (length cards.lines) bank_lines lined.1;
         few_futures = futures.1;
         baskets_named = λ k h. (and_parts _ _ (none_fails (λ _. basket_fits (length cards.families)) no_basket cards.baskets b.0 k h)).0;
         months_named = none_fails (λ _. month_fits (length cards.baskets)) no_month cards.months m.0;

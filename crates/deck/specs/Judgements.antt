@@ -76,10 +76,10 @@ first_unfit cards held =
 
 -- 6: 1 to 2 families, 1 to 4 baskets, 1 to 8 months, 1 to 16 lines, as many as the bank has, the first of them futures, at least one
 abbrev pub counted : ℕ → Cards → Bool
-counted bankLines cards =
+counted bank_lines cards =
     ((within (pos 1) (pos 2) (pos (length cards.families)) && within (pos 1) (pos 4) (pos (length cards.baskets))) && within (pos 1) (pos 8) (pos (length cards.months)))
-    && ((within (pos 1) (pos 16) (pos (length cards.lines)) && length cards.lines == bankLines) && within (pos 1) (pos (length cards.lines)) (pos cards.futures))
+    && ((within (pos 1) (pos 16) (pos (length cards.lines)) && length cards.lines == bank_lines) && within (pos 1) (pos (length cards.lines)) (pos cards.futures))
 
 -- 4 comes before 6
 abbrev pub cards_judged : ℕ → Cards → List Held → Result Cards Refusal
-cards_judged bankLines cards held = decided (refused_at BadCard (first_unfit cards held) ∷ unless (counted bankLines cards) WrongShape ∷ []) cards
+cards_judged bank_lines cards held = decided (refused_at BadCard (first_unfit cards held) ∷ unless (counted bank_lines cards) WrongShape ∷ []) cards

@@ -8,11 +8,11 @@ use crate::field::Field;
 pub trait Kind {
     type Record: Copy;
 
-    ghost headOf: { List ℕ };
+    ghost head_of: { List ℕ };
 
-    ghost fieldsOf: { List Asked };
+    ghost fields_of: { List Asked };
 
-    ghost lettered: { Lettered headOf fieldsOf };
+    ghost lettered: { Lettered head_of fields_of };
 
     ghost empty: { Self.Record };
 
@@ -23,10 +23,10 @@ pub trait Kind {
     const FIELDS: &'static [Field];
 
     fn first_head() -> &'static [u8]
-        ensures { result.now ≡ headOf };
+        ensures { result.now ≡ head_of };
 
     fn inner_forms() -> &'static [Field]
-        ensures { all_asked result.now ≡ fieldsOf };
+        ensures { all_asked result.now ≡ fields_of };
 
     fn blank() -> Self::Record
         ensures { result ≡ empty };

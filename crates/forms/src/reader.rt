@@ -180,7 +180,7 @@ impl Reader<'_> {
 
     // The inner forms that a kind asks for, filled into its record.
     fn all_inner<K: Kind>(&mut self) -> Result<K::Record, Refusal>
-        ensures answer { told result self.new.at ≡ inners_in K.Kind.filled self.old.text.now K.Kind.fieldsOf 0 K.Kind.empty self.old.at }
+        ensures answer { told result self.new.at ≡ inners_in K.Kind.filled self.old.text.now K.Kind.fields_of 0 K.Kind.empty self.old.at }
         ensures same { self.new.text.now ≡ self.old.text.now }
     {
         let mut filled = K::blank();
@@ -224,9 +224,9 @@ impl Reader<'_> {
 
     // A form of the kind, with its line's end: the record that it fills.
     pub fn form<K: Kind>(&mut self) -> Result<K::Record, Refusal>
-        ensures answer { told result self.new.at ≡ form_in K.Kind.headOf K.Kind.fieldsOf K.Kind.empty K.Kind.filled self.old.text.now self.old.at }
+        ensures answer { told result self.new.at ≡ form_in K.Kind.head_of K.Kind.fields_of K.Kind.empty K.Kind.filled self.old.text.now self.old.at }
         ensures same { self.new.text.now ≡ self.old.text.now }
-        ensures reads { ReadsForms K.Kind.headOf K.Kind.fieldsOf K.Kind.empty K.Kind.filled }
+        ensures reads { ReadsForms K.Kind.head_of K.Kind.fields_of K.Kind.empty K.Kind.filled }
     {
         self.whole_form::<K>()
     }
@@ -234,15 +234,15 @@ impl Reader<'_> {
     // The forms of a kind that follow one another here, written into the list from its start; answers how many they are.
     // One more than the list holds is refused at its bracket.
     pub fn list<K: Kind>(&mut self, out: &mut [K::Record]) -> Result<usize, Refusal>
-        ensures answer { Listed (list_on K.Kind.headOf K.Kind.fieldsOf K.Kind.empty K.Kind.filled self.old.text.now (length out.old) [] self.old.at) result self.new.at out.old out.new }
+        ensures answer { Listed (list_on K.Kind.head_of K.Kind.fields_of K.Kind.empty K.Kind.filled self.old.text.now (length out.old) [] self.old.at) result self.new.at out.old out.new }
         ensures same { self.new.text.now ≡ self.old.text.now }
-        ensures reads { ReadsLists K.Kind.headOf K.Kind.fieldsOf K.Kind.empty K.Kind.filled }
+        ensures reads { ReadsLists K.Kind.head_of K.Kind.fields_of K.Kind.empty K.Kind.filled }
     {
         self.list_forms::<K>(out)
     }
 
     fn list_forms<K: Kind>(&mut self, out: &mut [K::Record]) -> Result<usize, Refusal>
-        ensures answer { Listed (list_on K.Kind.headOf K.Kind.fieldsOf K.Kind.empty K.Kind.filled self.old.text.now (length out.old) [] self.old.at) result self.new.at out.old out.new }
+        ensures answer { Listed (list_on K.Kind.head_of K.Kind.fields_of K.Kind.empty K.Kind.filled self.old.text.now (length out.old) [] self.old.at) result self.new.at out.old out.new }
         ensures same { self.new.text.now ≡ self.old.text.now }
     {
         let head = K::first_head();
@@ -259,7 +259,7 @@ impl Reader<'_> {
     }
 
     fn whole_form<K: Kind>(&mut self) -> Result<K::Record, Refusal>
-        ensures answer { told result self.new.at ≡ form_in K.Kind.headOf K.Kind.fieldsOf K.Kind.empty K.Kind.filled self.old.text.now self.old.at }
+        ensures answer { told result self.new.at ≡ form_in K.Kind.head_of K.Kind.fields_of K.Kind.empty K.Kind.filled self.old.text.now self.old.at }
         ensures same { self.new.text.now ≡ self.old.text.now }
     {
         self.outer_head(K::first_head())?;

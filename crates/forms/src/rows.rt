@@ -29,9 +29,9 @@ pub struct RowName;
 impl Kind for RowName {
     type Record = i64;
 
-    ghost headOf = { codes "row" };
+    ghost head_of = { codes "row" };
 
-    ghost fieldsOf = { line_asked ∷ column_asked ∷ [] };
+    ghost fields_of = { line_asked ∷ column_asked ∷ [] };
 
     ghost lettered = { (refl, (refl, (refl, tt))) };
 

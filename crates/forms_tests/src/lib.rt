@@ -1,3 +1,3 @@
 // Examples for the reader of forms.
 #[cfg(test)]
-mod forms;
+mod readings;

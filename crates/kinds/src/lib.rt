@@ -61,9 +61,9 @@ pub struct GridForm;
 impl Kind for GridForm {
     type Record = Half;
 
-    ghost headOf = { grid_format.head };
+    ghost head_of = { grid_format.head };
 
-    ghost fieldsOf = { grid_format.fields };
+    ghost fields_of = { grid_format.fields };
 
     ghost lettered = { (refl, (refl, tt)) };
 
@@ -105,9 +105,9 @@ pub struct FamilyForm;
 impl Kind for FamilyForm {
     type Record = Family;
 
-    ghost headOf = { family_format.head };
+    ghost head_of = { family_format.head };
 
-    ghost fieldsOf = { family_format.fields };
+    ghost fields_of = { family_format.fields };
 
     ghost lettered = { (refl, (refl, (refl, tt))) };
 
@@ -161,9 +161,9 @@ pub struct BasketForm;
 impl Kind for BasketForm {
     type Record = Basket;
 
-    ghost headOf = { basket_format.head };
+    ghost head_of = { basket_format.head };
 
-    ghost fieldsOf = { basket_format.fields };
+    ghost fields_of = { basket_format.fields };
 
     ghost lettered = { (refl, (refl, (refl, tt))) };
 
@@ -217,9 +217,9 @@ pub struct MonthForm;
 impl Kind for MonthForm {
     type Record = Month;
 
-    ghost headOf = { month_format.head };
+    ghost head_of = { month_format.head };
 
-    ghost fieldsOf = { month_format.fields };
+    ghost fields_of = { month_format.fields };
 
     ghost lettered = { (refl, (refl, tt)) };
 
@@ -257,9 +257,9 @@ pub struct FutureForm;
 impl Kind for FutureForm {
     type Record = Line;
 
-    ghost headOf = { future_format.head };
+    ghost head_of = { future_format.head };
 
-    ghost fieldsOf = { future_format.fields };
+    ghost fields_of = { future_format.fields };
 
     ghost lettered = { (refl, (refl, (refl, (refl, (refl, (refl, (refl, tt))))))) };
 
@@ -349,9 +349,9 @@ pub struct OptionForm;
 impl Kind for OptionForm {
     type Record = Line;
 
-    ghost headOf = { option_format.head };
+    ghost head_of = { option_format.head };
 
-    ghost fieldsOf = { option_format.fields };
+    ghost fields_of = { option_format.fields };
 
     ghost lettered = { (refl, (refl, tt)) };
 
@@ -392,9 +392,9 @@ pub struct CashForm;
 impl Kind for CashForm {
     type Record = i64;
 
-    ghost headOf = { cash_format.head };
+    ghost head_of = { cash_format.head };
 
-    ghost fieldsOf = { cash_format.fields };
+    ghost fields_of = { cash_format.fields };
 
     ghost lettered = { (refl, (refl, tt)) };
 
@@ -432,9 +432,9 @@ pub struct HeldForm;
 impl Kind for HeldForm {
     type Record = Held;
 
-    ghost headOf = { held_format.head };
+    ghost head_of = { held_format.head };
 
-    ghost fieldsOf = { held_format.fields };
+    ghost fields_of = { held_format.fields };
 
     ghost lettered = { (refl, (refl, (refl, (refl, tt)))) };
 
@@ -509,9 +509,9 @@ pub struct OrderForm;
 impl Kind for OrderForm {
     type Record = Order;
 
-    ghost headOf = { order_format.head };
+    ghost head_of = { order_format.head };
 
-    ghost fieldsOf = { order_format.fields };
+    ghost fields_of = { order_format.fields };
 
     ghost lettered = { (refl, (refl, (refl, (refl, tt)))) };
 

@@ -32,14 +32,14 @@ pub three_place : (a b c : ℤ) → (least3 a b c).1 ≤ 2
 three_place a b c = (least3_is a b c).to
 
 -- ---- a part of a list, of any items
-module _ {A : Type 0} (atMost : A → A → Bool) where
+module _ {A : Type 0} (at_most : A → A → Bool) where
   -- a place is never before the start
-  least_from_lem : (row : ℕ → A) (a n : ℕ) → a ≤ (least atMost row a n).1
+  least_from_lem : (row : ℕ → A) (a n : ℕ) → a ≤ (least at_most row a n).1
   unfolding least
   least_from_lem row a zero = omega arith
-  least_from_lem row a (suc n) = by (least_from_lem row (suc a) n) (atMost (row a) (least atMost row (suc a) n).0)
+  least_from_lem row a (suc n) = by (least_from_lem row (suc a) n) (at_most (row a) (least at_most row (suc a) n).0)
     where
-      by : suc a ≤ (least atMost row (suc a) n).1 → (b : Bool) → a ≤ (elim b as (λ c. A × ℕ) [ true ↦ (row a, a) | false ↦ least atMost row (suc a) n ]).1
+      by : suc a ≤ (least at_most row (suc a) n).1 → (b : Bool) → a ≤ (elim b as (λ c. A × ℕ) [ true ↦ (row a, a) | false ↦ least at_most row (suc a) n ]).1
       by later true = omega arith
       by later false = omega arith
 
@@ -53,15 +53,15 @@ module _ {A : Type 0} (atMost : A → A → Bool) where
   moved x a j later h false = ap (at_place later.0) (omega arith)
 
   -- the least between two places of a list, as the search finds it in that part
-  part_least : (d : A) (xs : List A) (base a n j : ℕ) → base + a + n < length xs → let r = least atMost (λ q. get_or xs (base + q) d) a n in least_from atMost j (take (suc n) (drop (base + a) xs)) ≡ Some (r.0, r.1 - a + j)
+  part_least : (d : A) (xs : List A) (base a n j : ℕ) → base + a + n < length xs → let r = least at_most (λ q. get_or xs (base + q) d) a n in least_from at_most j (take (suc n) (drop (base + a) xs)) ≡ Some (r.0, r.1 - a + j)
   unfolding least_from least at_place
   part_least d xs base a zero j h =
-      ap (λ (ys : List A). least_from atMost j (take 1 ys)) (drop-cons xs (base + a) d (omega arith)) ∙ ap (λ (k : ℕ). at_place (get_or xs (base + a) d) k) (omega arith)
+      ap (λ (ys : List A). least_from at_most j (take 1 ys)) (drop-cons xs (base + a) d (omega arith)) ∙ ap (λ (k : ℕ). at_place (get_or xs (base + a) d) k) (omega arith)
   part_least d xs base a (suc n) j h =
-      ap (λ (ys : List A). least_from atMost j (take (suc (suc n)) ys)) (drop-cons xs (base + a) d (omega arith))
-      ∙ ap (λ (k : ℕ). Some (lesser_of atMost (x, j) (least_from atMost (suc j) (take (suc n) (drop k xs))))) next
-      ∙ ap (λ (later : Option (A × ℕ)). Some (lesser_of atMost (x, j) later)) (part_least d xs base (suc a) n (suc j) (omega arith))
-      ∙ moved x a j (least atMost (λ q. get_or xs (base + q) d) (suc a) n) (least_from_lem (λ q. get_or xs (base + q) d) (suc a) n) (atMost x (least atMost (λ q. get_or xs (base + q) d) (suc a) n).0)
+      ap (λ (ys : List A). least_from at_most j (take (suc (suc n)) ys)) (drop-cons xs (base + a) d (omega arith))
+      ∙ ap (λ (k : ℕ). Some (lesser_of at_most (x, j) (least_from at_most (suc j) (take (suc n) (drop k xs))))) next
+      ∙ ap (λ (later : Option (A × ℕ)). Some (lesser_of at_most (x, j) later)) (part_least d xs base (suc a) n (suc j) (omega arith))
+      ∙ moved x a j (least at_most (λ q. get_or xs (base + q) d) (suc a) n) (least_from_lem (λ q. get_or xs (base + q) d) (suc a) n) (at_most x (least at_most (λ q. get_or xs (base + q) d) (suc a) n).0)
     where
       x : A
       x = get_or xs (base + a) d
@@ -69,12 +69,12 @@ module _ {A : Type 0} (atMost : A → A → Bool) where
       next : suc (base + a) ≡ base + suc a
       next = omega arith
 
-  pub found_between : (d : A) (xs : List A) (base start end : ℕ) (o : Option (A × ℕ)) (x : A) (i : ℕ) → start ≤ end → base + end < length xs → o ≡ first_least atMost (take (base + end + 1 - (base + start)) (drop (base + start) xs)) → o ≡ Some (x, i) → ◌≡◌ {A = A × ℕ} (x, start + i) (least atMost (λ q. get_or xs (base + q) d) start (end - start))
+  pub found_between : (d : A) (xs : List A) (base start end : ℕ) (o : Option (A × ℕ)) (x : A) (i : ℕ) → start ≤ end → base + end < length xs → o ≡ first_least at_most (take (base + end + 1 - (base + start)) (drop (base + start) xs)) → o ≡ Some (x, i) → ◌≡◌ {A = A × ℕ} (x, start + i) (least at_most (λ q. get_or xs (base + q) d) start (end - start))
   found_between d xs base start end o x i ordered within found is =
-      let r = least atMost (λ q. get_or xs (base + q) d) start (end - start) in
+      let r = least at_most (λ q. get_or xs (base + q) d) start (end - start) in
       let from = least_from_lem (λ q. get_or xs (base + q) d) start (end - start) in
       let count : base + end + 1 - (base + start) ≡ suc (end - start) = omega arith in
-      let there : first_least atMost (take (base + end + 1 - (base + start)) (drop (base + start) xs)) ≡ Some (r.0, r.1 - start + 0) = ap (λ (k : ℕ). first_least atMost (take k (drop (base + start) xs))) count ∙ part_least d xs base start (end - start) 0 (omega arith) in
+      let there : first_least at_most (take (base + end + 1 - (base + start)) (drop (base + start) xs)) ≡ Some (r.0, r.1 - start + 0) = ap (λ (k : ℕ). first_least at_most (take k (drop (base + start) xs))) count ∙ part_least d xs base start (end - start) 0 (omega arith) in
       let same : ◌≡◌ {A = A × ℕ} (x, i) (r.0, r.1 - start + 0) = cc in
       let place : i ≡ r.1 - start + 0 = ap (λ (t : A × ℕ). t.1) same in
       ap₂ pair (ap (λ (t : A × ℕ). t.0) same) (omega arith)

@@ -1,6 +1,6 @@
 // The worst of each family, its loss, and the margin.
 ghost use Rattle.std.specs.Prelude.{◌≡◌, ℕ, ◌+◌, ◌^◌, ◌≤◌, pos, ◌≤ℤ◌, ◌<ℤ◌, slice_index, slice_index_or, unsigned_abs};
-ghost use Rattle.margin.specs.Layers.{family_result, family_worst, grains as lossInGrains, margin_of, costliest as costliestOf};
+ghost use Rattle.margin.specs.Layers.{family_result, family_worst, grains as loss_in_grains, margin_of, costliest as costliest_of};
 ghost use Rattle.layers.specs.Families.{each_worst, each_loss};
 ghost use Rattle.layers.specs.Rows.{Holds};
 ghost use Rattle.layers.specs.Scenes.{Fits, HoldsBaskets, in_scene};
@@ -68,7 +68,7 @@ impl<'a> Scene<'a> {
         requires fits { Fits self.now }
         requires held { losses.now ≡ in_scene each_loss self.now }
         requires size { (f : ℕ) → slice_index losses.now f ≤ 2 ^ 78 }
-        ensures value { result ≡ in_scene lossInGrains self.now }
+        ensures value { result ≡ in_scene loss_in_grains self.now }
         ensures size { result ≤ 2 ^ 79 }
     {
         let mut sum = 0;
@@ -92,7 +92,7 @@ impl<'a> Scene<'a> {
     pub(crate) fn costliest(&self, losses: &[u128]) -> usize
         requires fits { Fits self.now }
         requires held { losses.now ≡ in_scene each_loss self.now }
-        ensures { result ≡ in_scene costliestOf self.now }
+        ensures { result ≡ in_scene costliest_of self.now }
     {
         let first = FamilyLoss {
             family: 0,

@@ -1,10 +1,10 @@
 // The names on cards: whether a card names a number, and which.
 ghost use Rattle.std.specs.Prelude.{◌≡◌, false, pos, ◌≤ℤ◌, ◌<ℤ◌, ◌==◌, unsigned_abs};
-ghost use Rattle.margin.specs.Book.{names as namesNumber, named};
+ghost use Rattle.margin.specs.Book.{names as names_number, named};
 
 // Whether a card names the number i.
 pub fn names(name: i64, i: usize) -> bool
-    ensures { result ≡ namesNumber name i }
+    ensures { result ≡ names_number name i }
 {
     is_number(name, i)
 }

@@ -2,7 +2,7 @@
 // from cells.
 ghost use Rattle.std.specs.Prelude.{◌≡◌, None};
 ghost use Rattle.margin.specs.HandedOut.{family_choice, basket_choice, month_choice};
-ghost use Rattle.margin.specs.Layers.{margin_of, costliest as costliestOf};
+ghost use Rattle.margin.specs.Layers.{margin_of, costliest as costliest_of};
 ghost use Rattle.deck.specs.Decks.{deck_cards};
 ghost use Rattle.layers.specs.Families.{each_worst, each_loss};
 ghost use Rattle.layers.specs.Outcomes.{on_cells};
@@ -34,7 +34,7 @@ pub fn worked_out<'a>(deck: &'a Deck, cells: &'a MonthCells, half: Half) -> Outc
     ensures amount { result.amount ≡ on_cells margin_of half deck.now cells.now }
     ensures losses { result.losses ≡ on_cells each_loss half deck.now cells.now }
     ensures worsts { result.worsts ≡ on_cells each_worst half deck.now cells.now }
-    ensures costliest { result.costliest ≡ on_cells costliestOf half deck.now cells.now }
+    ensures costliest { result.costliest ≡ on_cells costliest_of half deck.now cells.now }
     ensures families { Lists None (on_cells family_choice half deck.now cells.now) result.families }
     ensures baskets { Lists None (on_cells basket_choice half deck.now cells.now) result.baskets }
     ensures months { Lists None (on_cells month_choice half deck.now cells.now) result.months }

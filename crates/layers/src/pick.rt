@@ -1,7 +1,7 @@
 // The least of a few results, with its first place.
 ghost use Rattle.std.specs.Prelude.{◌≡◌, ℕ, ◌+◌, ◌-◌, ◌<◌, ◌≤◌, length, get_or, pos, int_le, slice_index_or, unsigned_abs};
 ghost use Rattle.std.specs.Int.{int_min};
-ghost use Rattle.margin.specs.Sums.{least as leastOf, least3};
+ghost use Rattle.margin.specs.Sums.{least as least_of, least3};
 
 use order::least;
 
@@ -33,7 +33,7 @@ pub(crate) fn least_between(
 ) -> (i128, usize)
     requires ordered { start ≤ end }
     requires within { base + end < length results.now }
-    ensures value { result ≡ leastOf int_le (λ q. get_or results.now (base + q) (pos 0)) start (end - start) }
+    ensures value { result ≡ least_of int_le (λ q. get_or results.now (base + q) (pos 0)) start (end - start) }
     ensures size { (n : ℕ) → ((i : ℕ) → unsigned_abs (slice_index_or results.now i (pos 0)) ≤ n) → unsigned_abs result.0 ≤ n }
 {
     match least(&results[base + start..base + end + 1]) {

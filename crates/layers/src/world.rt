@@ -1,6 +1,6 @@
 // The world handed out, as far as it is chosen from the cells.
 ghost use Rattle.std.specs.Prelude.{◌≡◌, ℕ, ◌+◌, ◌-◌, ◌<◌, ◌≤◌, length, Some, None};
-ghost use Rattle.margin.specs.Book.{named, basket as basketCard, month as monthCard};
+ghost use Rattle.margin.specs.Book.{named, basket as basket_card, month as month_card};
 ghost use Rattle.margin.specs.HandedOut.{take_if_below0, column_at, kept_with, month_in, basket_in, family_point, basket_point, month_kept, family_choice, basket_choice, month_choice};
 ghost use Rattle.layers.specs.Rows.{Lists};
 ghost use Rattle.layers.specs.Scenes.{Fits, HoldsBaskets, NamesBaskets, in_scene, cards_of, cells_of};
@@ -98,7 +98,7 @@ impl<'a> Scene<'a> {
 
     // The number of the family that a basket names.
     fn family_of(&self, b: usize) -> usize
-        ensures { result ≡ named (basketCard (cards_of self.now) b).family }
+        ensures { result ≡ named (basket_card (cards_of self.now) b).family }
     {
         if b < self.baskets.len() {
             number(self.baskets[b].family)
@@ -126,7 +126,7 @@ impl<'a> Scene<'a> {
         requires fits { Fits self.now }
         requires held { HoldsBaskets self.now rows.now }
         requires month { m < length self.now.months.now }
-        requires basket { named (monthCard (cards_of self.now) m).basket < 4 }
+        requires basket { named (month_card (cards_of self.now) m).basket < 4 }
         ensures { result ≡ in_scene month_kept self.now m }
     {
         let b = number(self.months[m].basket);

@@ -16,7 +16,7 @@ use terms::refusal::Refusal;
 
 // The forms of a kind that follow one another, at least one.
 fn some<K: Kind>(reader: &mut Reader, out: &mut [K::Record]) -> Result<usize, Refusal>
-    ensures answer { Listed (some_in K.Kind.headOf K.Kind.fieldsOf K.Kind.empty K.Kind.filled reader.old.text.now (length out.old) reader.old.at) result reader.new.at out.old out.new }
+    ensures answer { Listed (some_in K.Kind.head_of K.Kind.fields_of K.Kind.empty K.Kind.filled reader.old.text.now (length out.old) reader.old.at) result reader.new.at out.old out.new }
     ensures same { reader.new.text.now ≡ reader.old.text.now }
 {
     let count = reader.list::<K>(out)?;

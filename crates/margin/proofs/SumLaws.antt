@@ -76,11 +76,11 @@ unfolding least3
 least3_is a b c = least_is (of3 a b c) 0 2
 
 -- rows that agree have the same least, under any order
-pub least_same : {A : Type 0} (atMost : A → A → Bool) (f g : ℕ → A) (a n : ℕ) → ((i : ℕ) → a ≤ i → i ≤ a + n → f i ≡ g i) → least atMost f a n ≡ least atMost g a n
+pub least_same : {A : Type 0} (at_most : A → A → Bool) (f g : ℕ → A) (a n : ℕ) → ((i : ℕ) → a ≤ i → i ≤ a + n → f i ≡ g i) → least at_most f a n ≡ least at_most g a n
 unfolding least
-least_same {A} atMost f g a zero h = ap (λ (x : A). pair x a) (h a (omega arith) (omega arith))
+least_same {A} at_most f g a zero h = ap (λ (x : A). pair x a) (h a (omega arith) (omega arith))
   where
     pair : A → ℕ → A × ℕ
     pair x k = (x, k)
-least_same {A} atMost f g a (suc n) h =
-    ap₂ (λ (x : A) (later : A × ℕ). lesser_of atMost (x, a) (Some later)) (h a (omega arith) (omega arith)) (least_same atMost f g (suc a) n (λ i k l. h i (omega arith) (omega arith)))
+least_same {A} at_most f g a (suc n) h =
+    ap₂ (λ (x : A) (later : A × ℕ). lesser_of at_most (x, a) (Some later)) (h a (omega arith) (omega arith)) (least_same at_most f g (suc a) n (λ i k l. h i (omega arith) (omega arith)))

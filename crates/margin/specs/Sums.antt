@@ -9,8 +9,8 @@ total (suc n) test part = total n test part +ℤ elim (test n) [ true ↦ part n
 
 -- the least of a row's items at first, first + 1, .., first + more, and the first place where it stands
 unfoldable pub least : {A : Type 0} → (A → A → Bool) → (ℕ → A) → ℕ → ℕ → A × ℕ
-least atMost row first zero = (row first, first)
-least atMost row first (suc more) = lesser_of atMost (row first, first) (Some (least atMost row (suc first) more))
+least at_most row first zero = (row first, first)
+least at_most row first (suc more) = lesser_of at_most (row first, first) (Some (least at_most row (suc first) more))
 
 abbrev pub of3 : ℤ → ℤ → ℤ → ℕ → ℤ
 of3 a b c zero = a

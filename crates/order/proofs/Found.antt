@@ -5,77 +5,77 @@ use Rattle.std.proofs.lemmas.List.{get_or_default}
 use Rattle.std.proofs.lemmas.Bool.{false≢true}
 use Rattle.order.specs.Orders.{TotalOrder, lesser_of, least_from, first_least, IsFirstLeast}
 
-module _ {X : Type 0} (atMost : X → X → Bool) where
+module _ {X : Type 0} (at_most : X → X → Bool) where
   -- one item more in front
-  pub least_more : (xs : List X) (i : ℕ) (x : X) → i < length xs → x ≡ get_or xs i x → least_from atMost i (drop i xs) ≡ Some (lesser_of atMost (x, i) (least_from atMost (suc i) (drop (suc i) xs)))
+  pub least_more : (xs : List X) (i : ℕ) (x : X) → i < length xs → x ≡ get_or xs i x → least_from at_most i (drop i xs) ≡ Some (lesser_of at_most (x, i) (least_from at_most (suc i) (drop (suc i) xs)))
   unfolding least_from
   least_more xs i x within read =
-      ap (least_from atMost i) (drop-cons xs i x within ∙ ap (λ y. y ∷ drop (suc i) xs) (sym read))
+      ap (least_from at_most i) (drop-cons xs i x within ∙ ap (λ y. y ∷ drop (suc i) xs) (sym read))
 
   -- none past the end
-  pub least_none : (xs : List X) → least_from atMost (length xs) (drop (length xs) xs) ≡ None
+  pub least_none : (xs : List X) → least_from at_most (length xs) (drop (length xs) xs) ≡ None
   unfolding least_from
-  least_none xs = ap (least_from atMost (length xs)) (drop-length xs)
+  least_none xs = ap (least_from at_most (length xs)) (drop-length xs)
 
   -- the j-th item of xs, whose places count from i, is its first least
   Found : ℕ → List X → X × ℕ → ℕ → Type 0
   Found i xs found j = (found.1 ≡ i + j) × (j < length xs) × (found.0 ≡ get_or xs j found.0)
-      × ((k : ℕ) → k < length xs → atMost found.0 (get_or xs k found.0) ≡ true)
-      × ((k : ℕ) → k < j → atMost (get_or xs k found.0) found.0 ≡ false)
+      × ((k : ℕ) → k < length xs → at_most found.0 (get_or xs k found.0) ≡ true)
+      × ((k : ℕ) → k < j → at_most (get_or xs k found.0) found.0 ≡ false)
 
-module _ {X : Type 0} {atMost : X → X → Bool} (o : TotalOrder atMost) where
-  itself : (x : X) → atMost x x ≡ true
+module _ {X : Type 0} {at_most : X → X → Bool} (o : TotalOrder at_most) where
+  itself : (x : X) → at_most x x ≡ true
   itself x = ⊎_elim (λ h. h) (λ h. h) (o.total x x)
 
-  other_way : (x y : X) → atMost x y ≡ false → atMost y x ≡ true
+  other_way : (x y : X) → at_most x y ≡ false → at_most y x ≡ true
   other_way x y h = ⊎_elim (λ t. absurd (false≢true (sym h ∙ t))) (λ t. t) (o.total x y)
 
-  alone : (i : ℕ) (x : X) (xs : List X) → length xs ≡ 0 → Found atMost i (x ∷ xs) (x, i) 0
+  alone : (i : ℕ) (x : X) (xs : List X) → length xs ≡ 0 → Found at_most i (x ∷ xs) (x, i) 0
   unfolding Found
   alone i x xs none = (sym (add-zero i), suc-le-suc zero-le, refl, each, (λ k h. absurd (not-suc-le-zero h)))
     where
-      each : (k : ℕ) → k < suc (length xs) → atMost x (get_or (x ∷ xs) k x) ≡ true
+      each : (k : ℕ) → k < suc (length xs) → at_most x (get_or (x ∷ xs) k x) ≡ true
       each zero h = itself x
       each (suc k) h = absurd (not-suc-le-zero (subst (λ n. k < n) none (le_of_suc-le-suc h)))
 
-  front : (i : ℕ) (x : X) (xs : List X) (later : X × ℕ) (j : ℕ) → atMost x later.0 ≡ true → Found atMost (suc i) xs later j → Found atMost i (x ∷ xs) (x, i) 0
+  front : (i : ℕ) (x : X) (xs : List X) (later : X × ℕ) (j : ℕ) → at_most x later.0 ≡ true → Found at_most (suc i) xs later j → Found at_most i (x ∷ xs) (x, i) 0
   unfolding Found
   front i x xs later j less found = (sym (add-zero i), suc-le-suc zero-le, refl, each, (λ k h. absurd (not-suc-le-zero h)))
     where
-      each : (k : ℕ) → k < suc (length xs) → atMost x (get_or (x ∷ xs) k x) ≡ true
+      each : (k : ℕ) → k < suc (length xs) → at_most x (get_or (x ∷ xs) k x) ≡ true
       each zero h = itself x
       each (suc k) h = o.transitive x later.0 (get_or xs k x) less (rw (get_or_default xs k x later.0 (le_of_suc-le-suc h)) (found.3 k (le_of_suc-le-suc h)))
 
-  behind : (i : ℕ) (x : X) (xs : List X) (later : X × ℕ) (j : ℕ) → atMost x later.0 ≡ false → Found atMost (suc i) xs later j → Found atMost i (x ∷ xs) later (suc j)
+  behind : (i : ℕ) (x : X) (xs : List X) (later : X × ℕ) (j : ℕ) → at_most x later.0 ≡ false → Found at_most (suc i) xs later j → Found at_most i (x ∷ xs) later (suc j)
   unfolding Found
   behind i x xs later j more found = (omega (arith, found.0), suc-le-suc found.1, found.2, each, before)
     where
-      each : (k : ℕ) → k < suc (length xs) → atMost later.0 (get_or (x ∷ xs) k later.0) ≡ true
+      each : (k : ℕ) → k < suc (length xs) → at_most later.0 (get_or (x ∷ xs) k later.0) ≡ true
       each zero h = other_way x later.0 more
       each (suc k) h = found.3 k (le_of_suc-le-suc h)
 
-      before : (k : ℕ) → k < suc j → atMost (get_or (x ∷ xs) k later.0) later.0 ≡ false
+      before : (k : ℕ) → k < suc j → at_most (get_or (x ∷ xs) k later.0) later.0 ≡ false
       before zero h = more
       before (suc k) h = found.4 k (le_of_suc-le-suc h)
 
-  from : (i : ℕ) (xs : List X) → MatchOption (least_from atMost i xs) (length xs ≡ 0) (λ found. (j : ℕ) × Found atMost i xs found j)
+  from : (i : ℕ) (xs : List X) → MatchOption (least_from at_most i xs) (length xs ≡ 0) (λ found. (j : ℕ) × Found at_most i xs found j)
   unfolding least_from
   from i [] = refl
-  from i (x ∷ xs) = add (least_from atMost (suc i) xs) (from (suc i) xs)
+  from i (x ∷ xs) = add (least_from at_most (suc i) xs) (from (suc i) xs)
     where
-      add : (rest : Option (X × ℕ)) → MatchOption rest (length xs ≡ 0) (λ found. (j : ℕ) × Found atMost (suc i) xs found j) → (j : ℕ) × Found atMost i (x ∷ xs) (lesser_of atMost (x, i) rest) j
+      add : (rest : Option (X × ℕ)) → MatchOption rest (length xs ≡ 0) (λ found. (j : ℕ) × Found at_most (suc i) xs found j) → (j : ℕ) × Found at_most i (x ∷ xs) (lesser_of at_most (x, i) rest) j
       add None none = (0, alone i x xs none)
-      add (Some later) (j, found) = go (atMost x later.0) refl
+      add (Some later) (j, found) = go (at_most x later.0) refl
         where
-          go : (b : Bool) → atMost x later.0 ≡ b → (j : ℕ) × Found atMost i (x ∷ xs) (elim b [ true ↦ (x, i) | false ↦ later ]) j
+          go : (b : Bool) → at_most x later.0 ≡ b → (j : ℕ) × Found at_most i (x ∷ xs) (elim b [ true ↦ (x, i) | false ↦ later ]) j
           go true e = (0, front i x xs later j e found)
           go false e = (suc j, behind i x xs later j e found)
 
-  pub is_first_least : (xs : List X) → IsFirstLeast atMost xs (first_least atMost xs)
+  pub is_first_least : (xs : List X) → IsFirstLeast at_most xs (first_least at_most xs)
   unfolding Found
-  is_first_least xs = places (least_from atMost 0 xs) (from 0 xs)
+  is_first_least xs = places (least_from at_most 0 xs) (from 0 xs)
     where
-      places : (r : Option (X × ℕ)) → MatchOption r (length xs ≡ 0) (λ found. (j : ℕ) × Found atMost 0 xs found j) → IsFirstLeast atMost xs r
+      places : (r : Option (X × ℕ)) → MatchOption r (length xs ≡ 0) (λ found. (j : ℕ) × Found at_most 0 xs found j) → IsFirstLeast at_most xs r
       places None none = none
       places (Some found) (j, (e, within, read, less, first)) =
           let same : found.1 ≡ j = omega (arith, e) in

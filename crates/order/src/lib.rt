@@ -3,19 +3,19 @@ ghost use Rattle.std.specs.Prelude.{◌≡◌, Bool, int_le};
 ghost use Rattle.order.specs.Items.{integers_ordered, costlier, family_losses_ordered};
 ghost use Rattle.order.specs.Orders.{TotalOrder, lesser_of, first_least, IsFirstLeast};
 
-// An item with a total order. An implementation says by `atMost` which of two items comes first, and proves the order's laws.
+// An item with a total order. An implementation says by `at_most` which of two items comes first, and proves the order's laws.
 pub trait Ordered {
-    ghost atMost: { Self → Self → Bool };
+    ghost at_most: { Self → Self → Bool };
 
-    ghost ordered: { TotalOrder atMost };
+    ghost ordered: { TotalOrder at_most };
 
     fn at_most(&self, other: &Self) -> bool
-        ensures { result ≡ atMost self.now other.now };
+        ensures { result ≡ at_most self.now other.now };
 }
 
 // Results of a row, the lower first.
 impl Ordered for i128 {
-    ghost atMost = { int_le };
+    ghost at_most = { int_le };
 
     ghost ordered = { integers_ordered };
 
@@ -32,7 +32,7 @@ pub struct FamilyLoss {
 }
 
 impl Ordered for FamilyLoss {
-    ghost atMost = { costlier };
+    ghost at_most = { costlier };
 
     ghost ordered = { family_losses_ordered };
 
@@ -43,8 +43,8 @@ impl Ordered for FamilyLoss {
 
 // The least item with its first place, or none where there is no item.
 pub fn least<T: Ordered + Copy>(items: &[T]) -> Option<(T, usize)>
-    ensures value { result ≡ first_least atMost items.now }
-    ensures law { IsFirstLeast atMost items.now result }
+    ensures value { result ≡ first_least T.at_most items.now }
+    ensures law { IsFirstLeast T.at_most items.now result }
 {
     let mut found: Option<(T, usize)> = None;
     for i in (0..items.len()).rev() {
@@ -55,7 +55,7 @@ pub fn least<T: Ordered + Copy>(items: &[T]) -> Option<(T, usize)>
 
 // The first of an item and the least of those after it; the item itself on a tie.
 fn lesser<T: Ordered + Copy>(item: (T, usize), later: Option<(T, usize)>) -> (T, usize)
-    ensures { result ≡ lesser_of atMost item later }
+    ensures { result ≡ lesser_of T.at_most item later }
 {
     match later {
         None => item,

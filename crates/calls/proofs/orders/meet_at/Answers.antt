@@ -1,7 +1,7 @@
 use Rattle.std.proofs.Common.{◌≡◌, suc, ◌≤◌, List, ◌++◌, length, get_or, take, drop, set, nat_abs, vec_items, sym, refl, ap, ◌∙◌}
 use Rattle.std.proofs.lemmas.List.{get_or_read, get_or-set_same}
-use Rattle.account.specs.declared.order.Order.{Order}
-use Rattle.account.specs.declared.order.Event.{Event}
+use Rattle.account.specs.declared.orders.Order.{Order}
+use Rattle.account.specs.declared.orders.Event.{Event}
 use Rattle.account.specs.Orders.{order_after, kept}
 use Rattle.calls.specs.Accounts.{SmallEvent, none_open}
 use Rattle.calls.proofs.Places.{changed_settled}

@@ -10,7 +10,7 @@ loop-inner-init g c =
     let text = c.args.self.now.text.now in (
       refl,
       ap (λ fs. inners_in g.K.Kind.filled text fs 0 c.blank-filled.result c.args.self.now.at) c.inner-forms-field-items.ensures
-          ∙ ap (λ r. inners_in g.K.Kind.filled text g.K.Kind.fieldsOf 0 r c.args.self.now.at) c.blank-filled.ensures,
+          ∙ ap (λ r. inners_in g.K.Kind.filled text g.K.Kind.fields_of 0 r c.args.self.now.at) c.blank-filled.ensures,
     )
 
 pub returns-in-err-filled : goal.returns-in-err-filled

@@ -7,4 +7,4 @@ abbrev pub invariant-loop-inner : goal.invariant-loop-inner
 invariant-loop-inner g l =
     (l.self.text.now ≡ l.initial.self.text.now)
     × (inners_in g.K.Kind.filled l.initial.self.text.now (all_asked (drop l.inner l.field-items)) l.inner l.filled l.self.at
-    ≡ inners_in g.K.Kind.filled l.initial.self.text.now g.K.Kind.fieldsOf 0 g.K.Kind.empty l.initial.self.at)
+    ≡ inners_in g.K.Kind.filled l.initial.self.text.now g.K.Kind.fields_of 0 g.K.Kind.empty l.initial.self.at)

@@ -7,8 +7,8 @@ invariant-loop-head g l =
     (l.self.text.now ≡ l.initial.self.text.now)
     × (l.count ≤ length l.out)
     × (drop l.count l.out ≡ drop l.count l.initial.out)
-    × (list_on g.K.Kind.headOf g.K.Kind.fieldsOf g.K.Kind.empty g.K.Kind.filled l.initial.self.text.now (length l.initial.out - l.count) (take l.count l.out) l.self.at
-    ≡ list_on g.K.Kind.headOf g.K.Kind.fieldsOf g.K.Kind.empty g.K.Kind.filled l.initial.self.text.now (length l.initial.out) [] l.initial.self.at)
+    × (list_on g.K.Kind.head_of g.K.Kind.fields_of g.K.Kind.empty g.K.Kind.filled l.initial.self.text.now (length l.initial.out - l.count) (take l.count l.out) l.self.at
+    ≡ list_on g.K.Kind.head_of g.K.Kind.fields_of g.K.Kind.empty g.K.Kind.filled l.initial.self.text.now (length l.initial.out) [] l.initial.self.at)
 
 abbrev pub decreases-loop-head : goal.decreases-loop-head
 decreases-loop-head g l = length l.initial.out - l.count

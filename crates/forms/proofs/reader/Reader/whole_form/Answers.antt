@@ -20,7 +20,7 @@ returns-in-err-filled g c =
     let same = first.same in
     let head = first.answer ∙ ap (λ h. outer_in h c.args.self.now.text.now c.args.self.now.at) c.first-head.ensures in
     let tells = c.in-err-filled.ensures in
-    let next = tells.answer ∙ ap (λ t. inners_in g.K.Kind.filled t g.K.Kind.fieldsOf 0 g.K.Kind.empty c.outer-head.new.self.at) same in
+    let next = tells.answer ∙ ap (λ t. inners_in g.K.Kind.filled t g.K.Kind.fields_of 0 g.K.Kind.empty c.outer-head.new.self.at) same in
     rw (p.1, p.2) (record { answer = then_ok _ _ _ _ _ head (then_err _ _ _ next); same = tells.same ∙ same })
 
 pub returns-in-err-close-line : goal.returns-in-err-close-line
@@ -31,7 +31,7 @@ returns-in-err-close-line g c =
     let same = first.same in
     let head = first.answer ∙ ap (λ h. outer_in h c.args.self.now.text.now c.args.self.now.at) c.first-head.ensures in
     let second = c.in-ok-filled.ensures in
-    let inner = second.answer ∙ ap (λ t. inners_in g.K.Kind.filled t g.K.Kind.fieldsOf 0 g.K.Kind.empty c.outer-head.new.self.at) same in
+    let inner = second.answer ∙ ap (λ t. inners_in g.K.Kind.filled t g.K.Kind.fields_of 0 g.K.Kind.empty c.outer-head.new.self.at) same in
     let tells = c.in-err-close-line.ensures in
     let next = tells.answer ∙ ap (λ t. close_in t c.all-inner.new.self.at) (second.same ∙ same) in
     rw (p.1, p.2) (record { answer = then_ok _ _ _ _ _ head (then_ok _ _ _ _ _ inner (then_err _ _ _ next)); same = tells.same ∙ second.same ∙ same })
@@ -43,7 +43,7 @@ returns g c =
     let same = first.same in
     let head = first.answer ∙ ap (λ h. outer_in h c.args.self.now.text.now c.args.self.now.at) c.first-head.ensures in
     let second = c.in-ok-filled.ensures in
-    let inner = second.answer ∙ ap (λ t. inners_in g.K.Kind.filled t g.K.Kind.fieldsOf 0 g.K.Kind.empty c.outer-head.new.self.at) same in
+    let inner = second.answer ∙ ap (λ t. inners_in g.K.Kind.filled t g.K.Kind.fields_of 0 g.K.Kind.empty c.outer-head.new.self.at) same in
     let tells = c.in-ok-close-line.ensures in
     let next = tells.answer ∙ ap (λ t. close_in t c.all-inner.new.self.at) (second.same ∙ same) in
     record { answer = then_ok _ _ _ _ _ head (then_ok _ _ _ _ _ inner (then_ok _ _ _ _ _ next refl)); same = tells.same ∙ second.same ∙ same }

@@ -1,0 +1,45 @@
+use Rattle.std.proofs.Common.{◌≡◌, ℕ, suc, ◌+◌, ◌≤◌, Bool, true, ltb, List, [], ◌∷◌, ◌++◌, map, length, take, set, nat_abs, vec_items, sym, refl, ap, ◌∙◌, subst, zero-le, arith}
+use lib.ListN.{length-map}
+use Rattle.std.proofs.lemmas.List.{length-append}
+use Rattle.std.proofs.lemmas.Bool.{lt-ltb}
+use Rattle.terms.specs.Checks.{unless}
+use Rattle.terms.specs.declared.refusal.Refusal.TheVariants.{OrdersFull}
+use Rattle.margin.specs.declared.book.Open.{Open}
+use Rattle.cells.specs.Empty.{no_order}
+use Rattle.calls.specs.Accounts.{state_of, rest_of, first_of, book_with, trial_checks, SmallOrders}
+use Rattle.calls.proofs.Copies.{front_is, one_added, more_at}
+use Rattle.calls.proofs.Kept.{bounded}
+use Rattle.calls.proofs.Sizes.{left_at, limit_at}
+use Rattle.calls.proofs.Signs.{back}
+use Rattle.calls.proofs.accounts.Account.book_refusal.Goals as goal
+
+-- the orders on trial, and how many contracts the new one has
+pub trial-refusal-requires : goal.trial-refusal-requires
+trial-refusal-requires g c =
+    let a = c.args.self.now in
+    let s = state_of g.B.Bank.meaning a in
+    let b = bounded g.B.Bank.meaning a in
+    let front = front_is rest_of (vec_items a.orders) _ c.rests-trial.result c.len-count.result c.as-slice.ensures.value (omega (arith, c.len-count.ensures, a.orders.ok.0)) c.rests-trial.ensures.value in
+    let trial = one_added c.rests-trial.result (map rest_of s.orders) c.len-count.result c.args.order (omega (arith, c.rests-trial.ensures.long)) front in
+    record {
+      orders = record {
+        few = rw trial (rw (length-append (map rest_of s.orders) (c.args.order ∷ []), length-map s.orders rest_of) (omega (arith, c.len-count.ensures, a.orders.ok.0)));
+        lefts = λ i. rw trial (more_at (λ o. nat_abs o.left ≤ 10000) no_order (map rest_of s.orders) c.args.order zero-le (left_at s b) c.requires.left i);
+        limits = λ i. rw trial (more_at (λ o. nat_abs o.limit ≤ 10000000) no_order (map rest_of s.orders) c.args.order zero-le (limit_at s b) c.requires.limit i);
+      };
+      line = c.requires.line;
+      contracts = rw c.size.ensures (rw (back c.args.order.left (omega (arith, c.requires.left))) c.requires.left);
+    }
+
+pub returns : goal.returns
+returns g c =
+    let a = c.args.self.now in
+    let s = state_of g.B.Bank.meaning a in
+    let o = c.args.order in
+    let front = front_is rest_of (vec_items a.orders) _ c.rests-trial.result c.len-count.result c.as-slice.ensures.value (omega (arith, c.len-count.ensures, a.orders.ok.0)) c.rests-trial.ensures.value in
+    let trial = one_added c.rests-trial.result (map rest_of s.orders) c.len-count.result o (omega (arith, c.rests-trial.ensures.long)) front in
+    let room : ltb (length s.orders) 32 ≡ true = lt-ltb (length s.orders) 32 (omega (arith, c.len-count.ensures, a.orders.ok.0)) in
+    c.trial-refusal.ensures
+    ∙ ap (λ (os : List Open). first_of (trial_checks s (record { positions = s.positions; orders = os }) o.line c.size.result)) trial
+    ∙ ap (λ (n : ℕ). first_of (trial_checks s (book_with s o) o.line n)) (c.size.ensures ∙ ap nat_abs (back o.left (omega (arith, c.requires.left))))
+    ∙ ap (λ (t : Bool). first_of (unless t OrdersFull ∷ trial_checks s (book_with s o) o.line (nat_abs o.left))) (sym room)

@@ -1,0 +1,23 @@
+use Rattle.std.proofs.Common.{ℕ, ◌+◌, ◌≤◌, leb, vec_items, ap, ◌∙◌, arith}
+use Rattle.std.proofs.lemmas.List.{get_or_default}
+use Rattle.calls.specs.Accounts.{state_of}
+use Rattle.calls.proofs.Kept.{bounded}
+use Rattle.calls.proofs.accounts.Account.count_fits.Goals as goal
+
+pub index-requires : goal.index-requires
+index-requires g c =
+    let b = bounded g.B.Bank.meaning c.args.self.now in
+    omega (arith, c.requires.line, b.a_position_a_line, b.a_count_a_line, c.args.self.now.accepted.ok.0)
+
+pub overflow-add-result : goal.overflow-add-result
+overflow-add-result g c =
+    let b = bounded g.B.Bank.meaning c.args.self.now in
+    let few = (b.each_line c.args.line (omega (arith, c.requires.line, b.a_position_a_line))).few_accepted in
+    let read = c.index.ensures ∙ get_or_default (vec_items c.args.self.now.accepted) c.args.line _ 0 (omega (arith, c.requires.line, b.a_position_a_line, b.a_count_a_line)) in
+    omega (arith, c.requires.contracts)
+
+pub returns : goal.returns
+returns g c =
+    let b = bounded g.B.Bank.meaning c.args.self.now in
+    let read = c.index.ensures ∙ get_or_default (vec_items c.args.self.now.accepted) c.args.line _ 0 (omega (arith, c.requires.line, b.a_position_a_line, b.a_count_a_line)) in
+    ap (λ (n : ℕ). leb (n + c.args.contracts) 20000) read

@@ -1,0 +1,65 @@
+use Rattle.std.proofs.Common.{◌≡◌, ◌+◌, ◌<◌, ◌≤◌, length, get_or, pos, nat_abs, vec_items, sym, refl, ap, ◌∙◌, subst, arith}
+use Rattle.std.proofs.lemmas.List.{get_or_default}
+use Rattle.account.specs.Account.{bound_checks}
+use Rattle.account.specs.Bounds.{InBounds}
+use Rattle.account.proofs.Bounded.{place_bounded}
+use Rattle.calls.specs.Accounts.{state_of}
+use Rattle.calls.proofs.Steps.{none_refuses}
+use Rattle.calls.proofs.Kept.{bounded, kept}
+use Rattle.calls.proofs.Placing.{line_inside, few_contracts, next_small, placed_is}
+use Rattle.calls.proofs.Signs.{back}
+use Rattle.calls.proofs.accounts.Account.placed.Goals as goal
+
+pub index-mut-requires : goal.index-mut-requires
+index-mut-requires g c =
+    let a = c.args.self.now in
+    let o = c.args.order in
+    let s = state_of g.B.Bank.meaning a in
+    let b = bounded g.B.Bank.meaning a in
+    let inside = line_inside s b o.line o.left o.limit (none_refuses (bound_checks s (pos o.line) o.left o.limit) c.requires) in
+    omega (arith, b.a_count_a_line, a.accepted.ok.0)
+
+pub overflow-add-self : goal.overflow-add-self
+overflow-add-self g c =
+    let a = c.args.self.now in
+    let o = c.args.order in
+    let s = state_of g.B.Bank.meaning a in
+    let b = bounded g.B.Bank.meaning a in
+    let h = none_refuses (bound_checks s (pos o.line) o.left o.limit) c.requires in
+    let inside = line_inside s b o.line o.left o.limit h in
+    let few = (b.each_line o.line inside).few_accepted in
+    let read = c.index-mut.ensures.value ∙ get_or_default (vec_items a.accepted) o.line _ 0 (omega (arith, b.a_count_a_line)) in
+    let contracts = few_contracts s b o.line o.left o.limit h in
+    let size = c.size.ensures ∙ ap nat_abs (back o.left (omega arith)) in
+    omega arith
+
+pub overflow-add-self-2 : goal.overflow-add-self-2
+overflow-add-self-2 g c =
+    let a = c.args.self.now in
+    let few = next_small (state_of g.B.Bank.meaning a) (bounded g.B.Bank.meaning a) (omega (arith, a.deck.few_lines, a.deck.lines.ok.0)) in
+    omega arith
+
+pub invariant-of-self : goal.invariant-of-self
+invariant-of-self g c =
+    let a = c.args.self.now in
+    let o = c.args.order in
+    let s = state_of g.B.Bank.meaning a in
+    let b = bounded g.B.Bank.meaning a in
+    let h = none_refuses (bound_checks s (pos o.line) o.left o.limit) c.requires in
+    let inside = line_inside s b o.line o.left o.limit h in
+    let contracts = few_contracts s b o.line o.left o.limit h in
+    let count = ap (λ n. n + c.size.result) (c.index-mut.ensures.value ∙ get_or_default (vec_items a.accepted) o.line _ 0 (omega (arith, b.a_count_a_line))) ∙ ap (λ n. get_or s.accepted o.line 0 + n) (c.size.ensures ∙ ap nat_abs (back o.left (omega arith))) in
+    let same = placed_is s o.line o.left o.limit _ _ _ c.push-reserved.ensures.items count refl in
+    (omega (arith, a.room, c.push-reserved.ensures.capacity), (kept _ (subst InBounds (sym same) (place_bounded s b (pos o.line) o.left o.limit h)), tt))
+
+pub returns : goal.returns
+returns g c =
+    let a = c.args.self.now in
+    let o = c.args.order in
+    let s = state_of g.B.Bank.meaning a in
+    let b = bounded g.B.Bank.meaning a in
+    let h = none_refuses (bound_checks s (pos o.line) o.left o.limit) c.requires in
+    let inside = line_inside s b o.line o.left o.limit h in
+    let contracts = few_contracts s b o.line o.left o.limit h in
+    let count = ap (λ n. n + c.size.result) (c.index-mut.ensures.value ∙ get_or_default (vec_items a.accepted) o.line _ 0 (omega (arith, b.a_count_a_line))) ∙ ap (λ n. get_or s.accepted o.line 0 + n) (c.size.ensures ∙ ap nat_abs (back o.left (omega arith))) in
+    record { state = placed_is s o.line o.left o.limit _ _ _ c.push-reserved.ensures.items count refl; number = refl }
