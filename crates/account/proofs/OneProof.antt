@@ -1,14 +1,17 @@
 -- The bounds of a state can be proved in one way at most, so that what an invariant keeps of them truncated comes out whole; and they read no bank.
-use Rattle.std.proofs.Common.{ℕ, List, [], ◌∷◌, refl}
+use Rattle.std.proofs.Common.{ℕ, ℤ, ◌≤ℤ◌, List, [], ◌∷◌, refl}
 use std.HLevel.{Π_prop}
 use native.Mathlib.Bridge.{le_prop}
 use base.Stored.{coded_ℕ}
-use denote.Struct.Props.{≡_prop, ≤ℤ_prop}
+use denote.Struct.Props.{≡_prop, props}
 use Rattle.std.specs.List.{AllByRecursion as All}
 use Rattle.banks.specs.Meanings.{Meaning}
 use Rattle.account.specs.declared.orders.Order.{Order}
 use Rattle.account.specs.Account.{State}
 use Rattle.account.specs.Bounds.{OrderInBounds, Ascending, LineInBounds, InBounds}
+
+at_most_one : (a b : ℤ) → IsProp (a ≤ℤ b)
+at_most_one a b = hlevel props
 
 all_one : {X : Type 0} (P : X → Type 0) → ((x : X) → IsProp (P x)) → (xs : List X) → IsProp (All P xs)
 all_one P one [] p q = refl
@@ -21,8 +24,8 @@ order_one lines next o p q = λ i. record {
   numbered_before = le_prop p.numbered_before q.numbered_before i;
   something_left = le_prop p.something_left q.something_left i;
   not_much_left = le_prop p.not_much_left q.not_much_left i;
-  limit_low = ≤ℤ_prop p.limit_low q.limit_low i;
-  limit_high = ≤ℤ_prop p.limit_high q.limit_high i;
+  limit_low = at_most_one _ _ p.limit_low q.limit_low i;
+  limit_high = at_most_one _ _ p.limit_high q.limit_high i;
 }
 
 ascending_one : (orders : List Order) → IsProp (Ascending orders)
@@ -31,10 +34,10 @@ ascending_one (o ∷ os) p q = λ i. (all_one _ (λ later. le_prop) os p.0 q.0 i
 
 line_one : (s : State) (l : ℕ) → IsProp (LineInBounds s l)
 line_one s l p q = λ i. record {
-  may_hold = ≤ℤ_prop p.may_hold q.may_hold i;
-  may_be_short = ≤ℤ_prop p.may_be_short q.may_be_short i;
+  may_hold = at_most_one _ _ p.may_hold q.may_hold i;
+  may_be_short = at_most_one _ _ p.may_be_short q.may_be_short i;
   few_accepted = le_prop p.few_accepted q.few_accepted i;
-  cost_bounded = ≤ℤ_prop p.cost_bounded q.cost_bounded i;
+  cost_bounded = at_most_one _ _ p.cost_bounded q.cost_bounded i;
 }
 
 pub in_bounds_one : (s : State) → IsProp (InBounds s)

@@ -30,14 +30,14 @@ along_none None count (Some k) e = absurd (some_is_none (count + k) e)
 
 -- ---- the facts
 
-pub record Facts (bank_lines : ℕ) (cards : Cards) : Type 0 where
+pub record Facts (of_bank : ℕ) (cards : Cards) : Type 0 where
   pub some_families : 1 ≤ length cards.families
   pub few_families : length cards.families ≤ 2
   pub few_baskets : length cards.baskets ≤ 4
   pub few_months : length cards.months ≤ 8
   pub some_lines : 1 ≤ length cards.lines
   pub few_lines : length cards.lines ≤ 16
-  pub bank_lines : length cards.lines ≡ bank_lines
+  pub bank_lines : length cards.lines ≡ of_bank
   pub few_futures : cards.futures ≤ length cards.lines
   pub baskets_named : (b : ℕ) → b < length cards.baskets → name_fits (length cards.families) (get_or cards.baskets b no_basket).family ≡ true
   pub months_named : (m : ℕ) → m < length cards.months → name_fits (length cards.baskets) (get_or cards.months m no_month).basket ≡ true

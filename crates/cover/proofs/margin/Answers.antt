@@ -21,15 +21,15 @@ returns g c =
     let deck = c.args.deck.now in
     let cards = deck_cards deck in
     let book = book_of c.args.book in
-    let found = c.worked-out-found.ensures in
-    let held : HoldsBook bank cards book c.half-half.result c.month-cells-cells.result.cells = record { half_is = c.half-half.ensures; cells_are = c.month-cells-cells.ensures } in
+    let found = c.worked_out-found.ensures in
+    let held : HoldsBook bank cards book c.half-half.result c.month_cells-cells.result.cells = record { half_is = c.half-half.ensures; cells_are = c.month_cells-cells.ensures } in
     let world = world_is bank deck book
-    (record { families = c.worked-out-found.result.families; baskets = c.worked-out-found.result.baskets; months = c.worked-out-found.result.months; orders = c.counted-orders-orders.result })
+    (record { families = c.worked_out-found.result.families; baskets = c.worked_out-found.result.baskets; months = c.worked_out-found.result.months; orders = c.counted_orders-orders.result })
     (λ k. found.families k ∙ found_for held (λ last cells. family_choice last cards cells k))
     (λ k. found.baskets k ∙ found_for held (λ last cells. basket_choice last cards cells k))
     (λ k. found.months k ∙ found_for held (λ last cells. month_choice last cards cells k))
-    c.counted-orders-orders.ensures in
-    let is = c.as-one.ensures in
+    c.counted_orders-orders.ensures in
+    let is = c.as_one.ensures in
     let answered = ap (λ (b : Blocked). world_of b.world) is ∙ world in
     record {
       amount = ap (λ (b : Blocked). b.amount) is ∙ found.amount ∙ found_for held (λ last cells. margin_of last cards cells);

@@ -7,8 +7,8 @@ small c =
     let few : c.args.factor ≤ 255 = search rules in
     rw c.from.ensures (omega (arith, mul-le-mul_right (nat_abs c.args.price) few))
 
-pub overflow-mul-result : goal.overflow-mul-result
-overflow-mul-result c = product_fits w64 c.from.result c.args.price (search rules) c.ranges.price (small c)
+pub overflow_mul-result : goal.overflow_mul-result
+overflow_mul-result c = product_fits w64 c.from.result c.args.price (search rules) c.ranges.price (small c)
 
 pub returns : goal.returns
 returns c =

@@ -1,8 +1,8 @@
 use Rattle.std.proofs.Common.{refl, mul-le-mul_right, arith}
 use Rattle.banks.proofs.strip.product.Goals as goal
 
-pub overflow-mul-result : goal.overflow-mul-result
-overflow-mul-result c = record { fits = omega (arith, mul-le-mul_right c.args.b c.requires.a-fits) }
+pub overflow_mul-result : goal.overflow_mul-result
+overflow_mul-result c = record { fits = omega (arith, mul-le-mul_right c.args.b c.requires.a_fits) }
 
 pub returns : goal.returns
-returns c = record { value = refl; bounded = mul-le-mul_right c.args.b c.requires.a-fits }
+returns c = record { value = refl; bounded = mul-le-mul_right c.args.b c.requires.a_fits }

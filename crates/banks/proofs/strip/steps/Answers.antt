@@ -12,8 +12,8 @@ small c =
     let short : c.args.step < 2 ^ 64 = search rules in
     rw c.from.ensures (omega (arith, few c))
 
-pub overflow-mul-result : goal.overflow-mul-result
-overflow-mul-result c = product_fits w128 c.args.count c.from.result c.ranges.count (search rules) (small c)
+pub overflow_mul-result : goal.overflow_mul-result
+overflow_mul-result c = product_fits w128 c.args.count c.from.result c.ranges.count (search rules) (small c)
 
 pub returns : goal.returns
 returns c =

@@ -7,7 +7,7 @@ use Rattle.banks.proofs.strip.widest.Goals as goal
 pub reach-reach-requires : goal.reach-reach-requires
 reach-reach-requires c =
     let s = quote_sizes c.args.half (get_or c.args.futures.now c.loop-card.card-index no_line) (c.requires _ c.loop-card-test.true) in
-    rw c.of.ensures (record { base-fits = s.base; step_fits = s.step })
+    rw c.of.ensures (record { base_fits = s.base; step_fits = s.step })
 
 pub loop-card-preserved : goal.loop-card-preserved
 loop-card-preserved c =

@@ -18,6 +18,6 @@ returns-in-Ok g c =
     let cards = given_cards c.args.given.now in
     let told = c.in-Ok.ensures in
     let judged = subst (λ (n : ℕ). cards_judged n cards c.args.held.now ≡ Ok cards) c.lines.ensures.value told.1 in
-    begin_goes_on g.B.Bank.meaning (g.B.Bank.meaning c.args.bank) cards c.args.held.now c.args.collateral c.begin-with.result judged
-    (subst (λ (z : ℤ). BeginOutcome g.B.Bank.meaning c.begin-with.result (Ok cards) (with_cards (g.B.Bank.meaning c.args.bank) cards c.args.held.now z)) (to_z-of_z w64 c.args.collateral c.ranges.collateral)
-    (subst (λ (cs : Cards). BeginOutcome g.B.Bank.meaning c.begin-with.result (Ok cs) (with_cards (g.B.Bank.meaning c.args.bank) cs c.args.held.now (to_z w64 (of_z w64 c.args.collateral)))) told.0 c.begin-with.ensures))
+    begin_goes_on g.B.Bank.meaning (g.B.Bank.meaning c.args.bank) cards c.args.held.now c.args.collateral c.begin_with.result judged
+    (subst (λ (z : ℤ). BeginOutcome g.B.Bank.meaning c.begin_with.result (Ok cards) (with_cards (g.B.Bank.meaning c.args.bank) cards c.args.held.now z)) (to_z-of_z w64 c.args.collateral c.ranges.collateral)
+    (subst (λ (cs : Cards). BeginOutcome g.B.Bank.meaning c.begin_with.result (Ok cs) (with_cards (g.B.Bank.meaning c.args.bank) cs c.args.held.now (to_z w64 (of_z w64 c.args.collateral)))) told.0 c.begin_with.ensures))

@@ -14,14 +14,14 @@ pub loop-holding-init : goal.loop-holding-init
 unfolding put_in
 loop-holding-init c = refl
 
-pub held-at-requires : goal.held-at-requires
-held-at-requires c =
+pub held_at-requires : goal.held_at-requires
+held_at-requires c =
     let lines = length (vec_items c.args.positions.now) in
     let sizes = sizes_at lines c.args.held.now c.loop-holding.holding-index c.requires c.loop-holding-test.true in
     record { net = sizes.few_held; price = sizes.fair_price }
 
-pub index-mut-requires : goal.index-mut-requires
-index-mut-requires c =
+pub index_mut-requires : goal.index_mut-requires
+index_mut-requires c =
     let lines = length (vec_items c.args.positions.now) in
     let fits : SFits w64 (get_or c.args.held.now c.loop-holding.holding-index none_held).line = search rules in
     let sizes = sizes_at lines c.args.held.now c.loop-holding.holding-index c.requires c.loop-holding-test.true in
@@ -36,8 +36,8 @@ loop-holding-preserved c =
     let fits : SFits w64 (get_or c.args.held.now c.loop-holding.holding-index none_held).line = search rules in
     let sizes = sizes_at lines c.args.held.now c.loop-holding.holding-index c.requires c.loop-holding-test.true in
     let number = (simp to_z-of_z at c.size.ensures) ∙ named_size lines (get_or c.args.held.now c.loop-holding.holding-index none_held).line sizes.names_a_line in
-    ap (λ (ps : List Position). set ps c.size.result c.held-at.result) c.loop-holding.invariant
-    ∙ ap₂ (set (put_in (take c.loop-holding.holding-index c.args.held.now) (vec_items c.args.positions.now))) number c.held-at.ensures
+    ap (λ (ps : List Position). set ps c.size.result c.held_at.result) c.loop-holding.invariant
+    ∙ ap₂ (set (put_in (take c.loop-holding.holding-index c.args.held.now) (vec_items c.args.positions.now))) number c.held_at.ensures
     ∙ sym (put_in_more c.args.held.now c.loop-holding.holding-index none_held (vec_items c.args.positions.now) c.loop-holding-test.true)
 
 pub returns : goal.returns

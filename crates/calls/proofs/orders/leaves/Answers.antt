@@ -8,7 +8,7 @@ unfolding left_after
 returns-in-Cancelled c = search rules
 
 pub returns-in-Filled : goal.returns-in-Filled
-returns-in-Filled c = minus_value c.args.left c.with-sign-of.result c.requires.small c.with-sign-of.ensures.sized ∙ leaves_is c.args.event c.args.left c.in-Filled.contracts c.with-sign-of.result c.in-Filled.is c.requires.small c.requires.event c.with-sign-of.ensures.value
+returns-in-Filled c = minus_value c.args.left c.with_sign_of.result c.requires.small c.with_sign_of.ensures.sized ∙ leaves_is c.args.event c.args.left c.in-Filled.contracts c.with_sign_of.result c.in-Filled.is c.requires.small c.requires.event c.with_sign_of.ensures.value
 
-pub overflow-sub-result : goal.overflow-sub-result
-overflow-sub-result c = minus_fits c.args.left c.with-sign-of.result c.requires.small c.with-sign-of.ensures.sized
+pub overflow_sub-result : goal.overflow_sub-result
+overflow_sub-result c = minus_fits c.args.left c.with_sign_of.result c.requires.small c.with_sign_of.ensures.sized

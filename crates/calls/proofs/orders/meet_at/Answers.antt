@@ -16,7 +16,7 @@ pub returns : goal.returns
 returns c =
     let orders = vec_items c.args.orders.now in
     let place = c.args.place in
-    let read = get_or_read orders place c.index-mut.result.now c.requires.place c.index-mut.ensures.value none_open in
+    let read = get_or_read orders place c.index_mut.result.now c.requires.place c.index_mut.ensures.value none_open in
     let met : c.meet.new.order ≡ order_after c.args.event (get_or orders place none_open) = c.meet.ensures ∙ ap (order_after c.args.event) read in
     let again : c.index.result.now ≡ c.meet.new.order = c.index.ensures ∙ get_or-set_same orders place c.meet.new.order _ c.requires.place in
     let left : c.index.result.now.rest.left ≡ (order_after c.args.event (get_or orders place none_open)).rest.left = ap (λ (o : Order). o.rest.left) (again ∙ met) in

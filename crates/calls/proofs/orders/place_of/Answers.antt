@@ -6,4 +6,4 @@ use Rattle.calls.proofs.orders.place_of.Goals as goal
 pub returns : goal.returns
 returns c =
     let fits = c.ranges.number in
-    place_is c.args.number c.args.orders.now c.first-failing.result (simp to_z-of_z at c.first-failing.ensures.value)
+    place_is c.args.number c.args.orders.now c.first_failing.result (simp to_z-of_z at c.first_failing.ensures.value)

@@ -6,15 +6,15 @@ use Rattle.calls.specs.Accounts.{state_of}
 use Rattle.calls.proofs.SafeRuns.{judged_ok, run_is_safe}
 use Rattle.calls.proofs.running.run.Goals as goal
 
-pub returns-in-Err-told-by : goal.returns-in-Err-told-by
-returns-in-Err-told-by g c =
+pub returns-in-Err-told_by : goal.returns-in-Err-told_by
+returns-in-Err-told_by g c =
     let fits = c.ranges.collateral in
     let starts = ap (begin (g.B.Bank.meaning c.args.bank) (given_cards c.args.given.now) c.args.held.now) (sym (to_z-of_z w64 c.args.collateral fits)) ∙ c.in-Ok.ensures in
     record { told = judged_ok (g.B.Bank.meaning c.args.bank) (given_cards c.args.given.now) c.args.held.now c.args.collateral _ starts; safe = tt }
 
-pub returns-in-Ok-told-by : goal.returns-in-Ok-told-by
-returns-in-Ok-told-by g c =
+pub returns-in-Ok-told_by : goal.returns-in-Ok-told_by
+returns-in-Ok-told_by g c =
     let fits = c.ranges.collateral in
     let s = state_of g.B.Bank.meaning c.in-Ok.account in
     let starts = ap (begin (g.B.Bank.meaning c.args.bank) (given_cards c.args.given.now) c.args.held.now) (sym (to_z-of_z w64 c.args.collateral fits)) ∙ c.in-Ok.ensures in
-    record { told = (s, starts, c.in-Ok-told-by.ensures); safe = λ t e. run_is_safe (g.B.Bank.meaning c.args.bank) (given_cards c.args.given.now) c.args.held.now c.args.collateral s t starts e c.args.calls.now _ c.in-Ok-told-by.ensures }
+    record { told = (s, starts, c.in-Ok-told_by.ensures); safe = λ t e. run_is_safe (g.B.Bank.meaning c.args.bank) (given_cards c.args.given.now) c.args.held.now c.args.collateral s t starts e c.args.calls.now _ c.in-Ok-told_by.ensures }

@@ -26,11 +26,11 @@ loop-call-preserved g c =
     let stepped = c.take.ensures ∙ ap (λ (t : State). step t (get_or calls i first_call)) c.loop-call.invariant.0 in
     let before = map told_of (vec_items c.args.told.now) in (
       ap (λ (r : State × Result account.Answer Refusal). r.0) stepped ∙ sym (run_more s calls i first_call c.loop-call-test.true),
-      ap (map told_of) c.push-reserved.ensures.items
+      ap (map told_of) c.push_reserved.ensures.items
           ∙ told_more (vec_items c.args.told.now) (vec_items c.loop-call.told) c.take.result (answers s (take i calls)) _ c.loop-call.invariant.1 (ap (λ (r : State × Result account.Answer Refusal). r.1) stepped)
           ∙ ap (λ (later : List (Result account.Answer Refusal)). before ++ later) (sym (answers_more s calls i first_call c.loop-call-test.true)),
-      omega (arith, c.push-reserved.ensures.len, c.loop-call.invariant.2),
-      c.push-reserved.ensures.capacity ∙ c.loop-call.invariant.3,
+      omega (arith, c.push_reserved.ensures.len, c.loop-call.invariant.2),
+      c.push_reserved.ensures.capacity ∙ c.loop-call.invariant.3,
     )
 
 pub returns : goal.returns

@@ -15,8 +15,8 @@ rise-requires-2 c = let s = future_sizes c.args.future.now c.requires.future in 
 pub above-requires-2 : goal.above-requires-2
 above-requires-2 c = let s = future_sizes c.args.future.now c.requires.future in search rules
 
-pub overflow-add-result : goal.overflow-add-result
-overflow-add-result c = omega (arith, ints, c.rated-second.ensures.size, c.rated-third.ensures.size)
+pub overflow_add-result : goal.overflow_add-result
+overflow_add-result c = omega (arith, ints, c.rated-second.ensures.size, c.rated-third.ensures.size)
 
 pub returns : goal.returns
 returns c = record { value = grind (arith, to_z-of_z); size = search rules }

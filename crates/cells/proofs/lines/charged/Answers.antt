@@ -18,9 +18,9 @@ returns-then-column-gt2 c =
 pub returns : goal.returns
 unfolding charges_at
 returns c =
-    let whole : SFits w64 c.charges-at.result = search rules in
-    let kept = to_z-of_z w64 c.charges-at.result whole in
+    let whole : SFits w64 c.charges_at.result = search rules in
+    let kept = to_z-of_z w64 c.charges_at.result whole in
     let book = book_of c.args.book in
     let due : Line → ℤ = λ f. (elim (eqb c.args.point 0) [ true ↦ charge f (long_reach book c.args.line) | false ↦ pos 0 ]) +ℤ (elim (eqb c.args.point c.args.last) [ true ↦ charge f (short_reach book c.args.line) | false ↦ pos 0 ]) in
     let here = charged_here c.args.last (deck_cards c.args.deck.now) (book_of c.args.book) c.args.line c.args.point c.args.column c.if-line-deck.false c.if-column-gt2.false in
-    record { value = kept ∙ c.charges-at.ensures.value ∙ ap due c.future-card.ensures.value ∙ sym here; size = rw kept c.charges-at.ensures.size }
+    record { value = kept ∙ c.charges_at.ensures.value ∙ ap due c.future_card.ensures.value ∙ sym here; size = rw kept c.charges_at.ensures.size }

@@ -6,11 +6,11 @@ use Rattle.cover.specs.Small.{small_book}
 use Rattle.cover.proofs.Bounded.{few, net_sizes, cost_sizes, left_sizes, limit_sizes}
 use Rattle.cover.proofs.judged.margin_of.Goals as goal
 
-pub returns-then-not-is-small : goal.returns-then-not-is-small
-returns-then-not-is-small g c =
+pub returns-then-not-is_small : goal.returns-then-not-is_small
+returns-then-not-is_small g c =
     let bank = g.B.Bank.meaning c.args.bank.now in
     record {
-      answered = sym c.if-not-is-small.true ∙ c.is-small.ensures;
+      answered = sym c.if-not-is_small.true ∙ c.is_small.ensures;
       amount = tt;
       losses = tt;
       worsts = tt;
@@ -21,9 +21,9 @@ returns-then-not-is-small g c =
       lowest = tt;
     }
 
-pub invariant-of-book : goal.invariant-of-book
-invariant-of-book g c =
+pub invariant_of-book : goal.invariant_of-book
+invariant_of-book g c =
     let positions = c.args.positions.now in
     let orders = c.args.orders.now in
-    let small : small_book positions orders ≡ true = sym c.is-small.ensures ∙ c.if-not-is-small.false in
-    (few positions orders small, (net_sizes positions orders small, (cost_sizes positions orders small, (left_sizes positions orders small, (limit_sizes positions orders small, tt)))))
+    let small : small_book positions orders ≡ true = sym c.is_small.ensures ∙ c.if-not-is_small.false in
+    record { few_orders = few positions orders small; nets = net_sizes positions orders small; costs = cost_sizes positions orders small; lefts = left_sizes positions orders small; limits = limit_sizes positions orders small }

@@ -21,4 +21,4 @@ pub returns-in-Ok : goal.returns-in-Ok
 returns-in-Ok c =
     let day = day_of c.args.day in
     let made = ap (λ (options : List Line). next (table_made (pos (half_size day.half)) (pos (length options)) day.prices) (λ table. pair_made (strip_meaning c.args.strip) table)) (sym (take_rest c.args.day.lines.now c.args.day.futures)) ∙ sym c.in-Ok.ensures in
-    record { told = told_made day (beside_table day (strip_meaning c.args.strip)) _ c.over-bank.result made c.over-bank.ensures.told; safe = safe_made day (beside_table day (strip_meaning c.args.strip)) _ c.over-bank.result made c.over-bank.ensures.safe }
+    record { told = told_made day (beside_table day (strip_meaning c.args.strip)) _ c.over_bank.result made c.over_bank.ensures.told; safe = safe_made day (beside_table day (strip_meaning c.args.strip)) _ c.over_bank.result made c.over_bank.ensures.safe }

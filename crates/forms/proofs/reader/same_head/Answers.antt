@@ -18,4 +18,4 @@ returns-then-head-text c = sym (head_all _ _ _ c.loop-place-test.false (omega ar
 pub returns : goal.returns
 returns c =
     let last : length c.args.head.now ≡ c.loop-place.place = omega arith in
-    ap not (c.is-ascii-lowercase.ensures.value ∙ ap (λ i. is_ascii_lowercase (get_or c.args.text.now i 0)) last) ∙ sym (head_ends _ _ _ c.loop-place-test.false (omega arith)) ∙ c.loop-place.invariant.1
+    ap not (c.is_ascii_lowercase.ensures.value ∙ ap (λ i. is_ascii_lowercase (get_or c.args.text.now i 0)) last) ∙ sym (head_ends _ _ _ c.loop-place-test.false (omega arith)) ∙ c.loop-place.invariant.1

@@ -4,5 +4,5 @@ use Rattle.layers.proofs.naming.names.Goals as goal
 
 pub returns : goal.returns
 returns c =
-    let told = simp (to_z-of_z, c.ranges.name) at c.is-number.ensures in
-    names_by c.args.name c.args.i c.is-number.result told.named told.unnamed
+    let told = simp (to_z-of_z, c.ranges.name) at c.is_number.ensures in
+    names_by c.args.name c.args.i c.is_number.result told.named told.unnamed

@@ -5,9 +5,9 @@ use Rattle.layers.proofs.outcome.view.Goals as goal
 pub returns : goal.returns
 returns c =
     let deck = c.args.deck.now in
-    let families = c.as-slice.ensures.value in
-    let baskets = c.as-slice-2.ensures.value in
-    let months = c.as-slice-3.ensures.value in
+    let families = c.as_slice.ensures.value in
+    let baskets = c.as_slice-2.ensures.value in
+    let months = c.as_slice-3.ensures.value in
     record {
       cards = search rules;
       table = refl;

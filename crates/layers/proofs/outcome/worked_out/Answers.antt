@@ -16,7 +16,7 @@ returns c =
       losses = c.losses-losses.ensures.value ∙ seen views each_loss;
       worsts = c.worsts-worsts.ensures.value ∙ seen views each_worst;
       costliest = c.costliest.ensures ∙ seen views costliest;
-      families = λ k. c.chosen-families.ensures k ∙ seen views (λ last cards cells. family_choice last cards cells k);
-      baskets = λ k. c.chosen-baskets.ensures k ∙ seen views (λ last cards cells. basket_choice last cards cells k);
-      months = λ k. c.chosen-months.ensures k ∙ seen views (λ last cards cells. month_choice last cards cells k);
+      families = λ k. c.chosen_families.ensures k ∙ seen views (λ last cards cells. family_choice last cards cells k);
+      baskets = λ k. c.chosen_baskets.ensures k ∙ seen views (λ last cards cells. basket_choice last cards cells k);
+      months = λ k. c.chosen_months.ensures k ∙ seen views (λ last cards cells. month_choice last cards cells k);
     }

@@ -6,4 +6,4 @@ pub returns-then-place-eq0 : goal.returns-then-place-eq0
 returns-then-place-eq0 c = no_column c.args.first c.args.place (omega arith)
 
 pub returns-else-place-eq0 : goal.returns-else-place-eq0
-returns-else-place-eq0 c = ap Some c.column-from.ensures ∙ a_column c.args.first c.args.place (λ e. omega arith)
+returns-else-place-eq0 c = ap Some c.column_from.ensures ∙ a_column c.args.first c.args.place (λ e. omega arith)

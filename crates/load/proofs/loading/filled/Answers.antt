@@ -14,58 +14,58 @@ use Rattle.load.proofs.loading.filled.Goals as goal
 
 pub day-requires : goal.day-requires
 day-requires c =
-    let known = lengths_are _ (sym c.in-ok-lists-fit.ensures) in
+    let known = lengths_are _ (sym c.in_ok-lists_fit.ensures) in
     let lines = ap (λ (l : Lengths). l.lines) (sym c.lengths.ensures ∙ known) in
     omega (arith, lines)
 
 pub unfit-requires : goal.unfit-requires
 unfit-requires c =
-    let day = kept_yes _ _ _ _ c.in-ok-loaded.ensures.kept in
-    subst (λ (l : Contents). Inside c.in-ok-loaded.loaded l) (sym day.3) (subst (λ (u : Loaded). Inside u (with_day day.0 (contents_of c.args.lists.now))) (sym day.2) (in_use day.0 (contents_of c.args.lists.now)))
+    let day = kept_yes _ _ _ _ c.in_ok-loaded.ensures.kept in
+    subst (λ (l : Contents). Inside c.in_ok-loaded.loaded l) (sym day.3) (subst (λ (u : Loaded). Inside u (with_day day.0 (contents_of c.args.lists.now))) (sym day.2) (in_use day.0 (contents_of c.args.lists.now)))
 
-pub returns-in-err-lists-fit : goal.returns-in-err-lists-fit
-returns-in-err-lists-fit c =
+pub returns-in_err-lists_fit : goal.returns-in_err-lists_fit
+returns-in_err-lists_fit c =
     let before = contents_of c.args.lists.now in
     let given = lengths_of before in
     let text = c.args.text.now in
-    let p = err_from_is_err_and c.from-residual.result c.from-residual.ensures.1 in
-    let lists = c.in-err-lists-fit.ensures ∙ ap (λ l. decided {X = Unit {0}} (list_checks l) tt) c.lengths.ensures in
+    let p = err_from_is_err_and c.from_residual.result c.from_residual.ensures.1 in
+    let lists = c.in_err-lists_fit.ensures ∙ ap (λ l. decided {X = Unit {0}} (list_checks l) tt) c.lengths.ensures in
     rw (p.1, p.2) (record { kept = keeps_no before before _ _ (refused_lists given text _ lists); long = refl })
 
-pub returns-in-err-text-fits : goal.returns-in-err-text-fits
-returns-in-err-text-fits c =
+pub returns-in_err-text_fits : goal.returns-in_err-text_fits
+returns-in_err-text_fits c =
     let before = contents_of c.args.lists.now in
     let given = lengths_of before in
     let text = c.args.text.now in
-    let p = err_from_is_err_and c.from-residual-in-err-text-fits.result c.from-residual-in-err-text-fits.ensures.1 in
-    let lists = c.in-ok-lists-fit.ensures ∙ ap (λ l. decided {X = Unit {0}} (list_checks l) tt) c.lengths.ensures in
-    rw (p.1, p.2) (record { kept = keeps_no before before _ _ (refused_text given text lists _ c.in-err-text-fits.ensures); long = refl })
+    let p = err_from_is_err_and c.from_residual-in_err-text_fits.result c.from_residual-in_err-text_fits.ensures.1 in
+    let lists = c.in_ok-lists_fit.ensures ∙ ap (λ l. decided {X = Unit {0}} (list_checks l) tt) c.lengths.ensures in
+    rw (p.1, p.2) (record { kept = keeps_no before before _ _ (refused_text given text lists _ c.in_err-text_fits.ensures); long = refl })
 
-pub returns-in-err-loaded : goal.returns-in-err-loaded
-returns-in-err-loaded c =
+pub returns-in_err-loaded : goal.returns-in_err-loaded
+returns-in_err-loaded c =
     let before = contents_of c.args.lists.now in
     let given = lengths_of before in
     let text = c.args.text.now in
-    let p = err_from_is_err_and c.from-residual-in-err-loaded.result c.from-residual-in-err-loaded.ensures.1 in
-    let lists = c.in-ok-lists-fit.ensures ∙ ap (λ l. decided {X = Unit {0}} (list_checks l) tt) c.lengths.ensures in
-    rw (p.1, p.2) (record { kept = keeps_no before (contents_of c.day.new.lists) _ _ (refused_day given text lists c.in-ok-text-fits.ensures _ (kept_no _ _ _ _ c.in-err-loaded.ensures.kept)); long = c.in-err-loaded.ensures.long })
+    let p = err_from_is_err_and c.from_residual-in_err-loaded.result c.from_residual-in_err-loaded.ensures.1 in
+    let lists = c.in_ok-lists_fit.ensures ∙ ap (λ l. decided {X = Unit {0}} (list_checks l) tt) c.lengths.ensures in
+    rw (p.1, p.2) (record { kept = keeps_no before (contents_of c.day.new.lists) _ _ (refused_day given text lists c.in_ok-text_fits.ensures _ (kept_no _ _ _ _ c.in_err-loaded.ensures.kept)); long = c.in_err-loaded.ensures.long })
 
 pub returns-in-Some : goal.returns-in-Some
 returns-in-Some c =
     let before = contents_of c.args.lists.now in
     let given = lengths_of before in
     let text = c.args.text.now in
-    let lists = c.in-ok-lists-fit.ensures ∙ ap (λ l. decided {X = Unit {0}} (list_checks l) tt) c.lengths.ensures in
-    let day = kept_yes _ _ _ _ c.in-ok-loaded.ensures.kept in
+    let lists = c.in_ok-lists_fit.ensures ∙ ap (λ l. decided {X = Unit {0}} (list_checks l) tt) c.lengths.ensures in
+    let day = kept_yes _ _ _ _ c.in_ok-loaded.ensures.kept in
     let unfit = c.in-Some.ensures ∙ (λ i. first_unfit (used_cards (day.2 i) (day.3 i)) (take (day.2 i).held (day.3 i).held)) ∙ (λ i. first_unfit (cards_used day.0 before i) (held_used day.0 before i)) in
-    record { kept = keeps_no before (contents_of c.day.new.lists) _ _ (ap (λ (o : Option ℕ). decided (refused_at BadCard o ∷ []) day.0) unfit ∙ judged_day given text lists c.in-ok-text-fits.ensures day.0 day.1); long = c.in-ok-loaded.ensures.long }
+    record { kept = keeps_no before (contents_of c.day.new.lists) _ _ (ap (λ (o : Option ℕ). decided (refused_at BadCard o ∷ []) day.0) unfit ∙ judged_day given text lists c.in_ok-text_fits.ensures day.0 day.1); long = c.in_ok-loaded.ensures.long }
 
 pub returns-in-None : goal.returns-in-None
 returns-in-None c =
     let before = contents_of c.args.lists.now in
     let given = lengths_of before in
     let text = c.args.text.now in
-    let lists = c.in-ok-lists-fit.ensures ∙ ap (λ l. decided {X = Unit {0}} (list_checks l) tt) c.lengths.ensures in
-    let day = kept_yes _ _ _ _ c.in-ok-loaded.ensures.kept in
+    let lists = c.in_ok-lists_fit.ensures ∙ ap (λ l. decided {X = Unit {0}} (list_checks l) tt) c.lengths.ensures in
+    let day = kept_yes _ _ _ _ c.in_ok-loaded.ensures.kept in
     let unfit = c.in-None.ensures ∙ (λ i. first_unfit (used_cards (day.2 i) (day.3 i)) (take (day.2 i).held (day.3 i).held)) ∙ (λ i. first_unfit (cards_used day.0 before i) (held_used day.0 before i)) in
-    record { kept = keeps before (contents_of c.day.new.lists) _ day.0 _ (ap (λ (o : Option ℕ). decided (refused_at BadCard o ∷ []) day.0) unfit ∙ judged_day given text lists c.in-ok-text-fits.ensures day.0 day.1) day.2 day.3; long = c.in-ok-loaded.ensures.long }
+    record { kept = keeps before (contents_of c.day.new.lists) _ day.0 _ (ap (λ (o : Option ℕ). decided (refused_at BadCard o ∷ []) day.0) unfit ∙ judged_day given text lists c.in_ok-text_fits.ensures day.0 day.1) day.2 day.3; long = c.in_ok-loaded.ensures.long }

@@ -8,38 +8,38 @@ use Rattle.load.specs.Reading.{any_at, end_in, book_in}
 use Rattle.load.proofs.Parts.{all_long, read_ok, read_err}
 use Rattle.load.proofs.reading.book.Goals as goal
 
-pub returns-in-err-held : goal.returns-in-err-held
+pub returns-in_err-held : goal.returns-in_err-held
 unfolding book_in
-returns-in-err-held c =
+returns-in_err-held c =
     let held-long : length c.list.new.out ≡ length c.args.lists.now.held.now = omega arith in
-    let p = err_from_is_err_and c.from-residual.result c.from-residual.ensures.1 in
-    let tells = c.in-err-held.ensures in
+    let p = err_from_is_err_and c.from_residual.result c.from_residual.ensures.1 in
+    let tells = c.in_err-held.ensures in
     rw (p.1, p.2) (record { answer = read_err _ _ _ _ _ _ _ (then_err _ _ _ (listed_no _ _ _ _ _ tells.answer)); long = all_long refl refl refl refl refl held-long refl; same = tells.same })
 
-pub returns-in-err-orders : goal.returns-in-err-orders
+pub returns-in_err-orders : goal.returns-in_err-orders
 unfolding book_in
-returns-in-err-orders c =
+returns-in_err-orders c =
     let held-long : length c.list.new.out ≡ length c.args.lists.now.held.now = omega arith in
     let orders_long : length c.list-2.new.out ≡ length c.args.lists.now.orders.now = omega arith in
-    let p = err_from_is_err_and c.from-residual-in-err-orders.result c.from-residual-in-err-orders.ensures.1 in
-    let first = c.in-ok-held.ensures in
+    let p = err_from_is_err_and c.from_residual-in_err-orders.result c.from_residual-in_err-orders.ensures.1 in
+    let first = c.in_ok-held.ensures in
     let held = listed_yes _ _ _ _ _ first.answer in
-    let tells = c.in-err-orders.ensures in
+    let tells = c.in_err-orders.ensures in
     let next = listed_no _ _ _ _ _ tells.answer ∙ ap (λ t. any_at order_format t (length c.args.lists.now.orders.now) c.list.new.self.at) first.same in
     rw (p.1, p.2) (record { answer = read_err _ _ _ _ _ _ _ (then_ok _ _ _ _ _ held.1 (then_err _ _ _ next)); long = all_long refl refl refl refl refl held-long orders_long; same = tells.same ∙ first.same })
 
-pub returns-then-is-at-end : goal.returns-then-is-at-end
+pub returns-then-is_at_end : goal.returns-then-is_at_end
 unfolding book_in end_in
-returns-then-is-at-end c =
+returns-then-is_at_end c =
     let held-long : length c.list.new.out ≡ length c.args.lists.now.held.now = omega arith in
     let orders_long : length c.list-2.new.out ≡ length c.args.lists.now.orders.now = omega arith in
-    let first = c.in-ok-held.ensures in
+    let first = c.in_ok-held.ensures in
     let held = listed_yes _ _ _ _ _ first.answer in
-    let second = c.in-ok-orders.ensures in
+    let second = c.in_ok-orders.ensures in
     let orders = listed_yes _ _ _ _ _ second.answer in
     let same = second.same ∙ first.same in
     let next = orders.1 ∙ ap (λ t. any_at order_format t (length c.args.lists.now.orders.now) c.list.new.self.at) first.same in
-    let ends = c.if-is-at-end.ensures ∙ ap (λ t. leb (length t) c.list-2.new.self.at) same in
+    let ends = c.if-is_at_end.ensures ∙ ap (λ t. leb (length t) c.list-2.new.self.at) same in
     let lists = c.args.lists.now in
     record {
       answer =
@@ -51,18 +51,18 @@ returns-then-is-at-end c =
       same = same;
     }
 
-pub returns-else-is-at-end : goal.returns-else-is-at-end
+pub returns-else-is_at_end : goal.returns-else-is_at_end
 unfolding book_in end_in
-returns-else-is-at-end c =
+returns-else-is_at_end c =
     let held-long : length c.list.new.out ≡ length c.args.lists.now.held.now = omega arith in
     let orders_long : length c.list-2.new.out ≡ length c.args.lists.now.orders.now = omega arith in
-    let first = c.in-ok-held.ensures in
+    let first = c.in_ok-held.ensures in
     let held = listed_yes _ _ _ _ _ first.answer in
-    let second = c.in-ok-orders.ensures in
+    let second = c.in_ok-orders.ensures in
     let orders = listed_yes _ _ _ _ _ second.answer in
     let same = second.same ∙ first.same in
     let next = orders.1 ∙ ap (λ t. any_at order_format t (length c.args.lists.now.orders.now) c.list.new.self.at) first.same in
-    let more = c.if-is-at-end.ensures ∙ ap (λ t. leb (length t) c.list-2.new.self.at) same in
+    let more = c.if-is_at_end.ensures ∙ ap (λ t. leb (length t) c.list-2.new.self.at) same in
     record {
       answer = read_err _ _ _ _ _ _ _ (then_ok _ _ _ _ _ held.1 (then_ok _ _ _ _ _ next (then_err _ _ _ (ap (λ n. Err (WrongForm n)) c.place.ensures ∙ given_no _ _ _ more))));
       long = all_long refl refl refl refl refl held-long orders_long;

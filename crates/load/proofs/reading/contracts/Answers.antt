@@ -10,28 +10,28 @@ use Rattle.load.proofs.Parts.{read_ok, read_err, read_yes, read_no}
 use Rattle.load.proofs.Rooms.{lines_room}
 use Rattle.load.proofs.reading.contracts.Goals as goal
 
-pub returns-in-err-futures : goal.returns-in-err-futures
+pub returns-in_err-futures : goal.returns-in_err-futures
 unfolding contracts_in
-returns-in-err-futures c =
-    let p = err_from_is_err_and c.from-residual.result c.from-residual.ensures.1 in
-    let tells = c.in-err-futures.ensures in
+returns-in_err-futures c =
+    let p = err_from_is_err_and c.from_residual.result c.from_residual.ensures.1 in
+    let tells = c.in_err-futures.ensures in
     rw (p.1, p.2) (record { answer = read_err _ _ _ _ _ _ _ (then_err _ _ _ (read_no _ _ _ _ _ _ _ tells.answer)); long = tells.long; same = tells.same })
 
-pub overflow-mul-options : goal.overflow-mul-options
-overflow-mul-options c =
-    let lines = read_yes _ _ _ _ _ _ _ c.in-ok-futures.ensures.answer in
+pub overflow_mul-options : goal.overflow_mul-options
+overflow_mul-options c =
+    let lines = read_yes _ _ _ _ _ _ _ c.in_ok-futures.ensures.answer in
     let few = lines_room (lengths_of (contents_of c.args.lists.now)) c.args.reader.now.text.now lines.0 c.args.reader.now.at c.lines.new.reader.at (sym lines.1) in
     let options = ap (λ n. n.1) lines.2 in
     omega (arith, few, options, c.requires)
 
-pub returns-in-err-prices : goal.returns-in-err-prices
+pub returns-in_err-prices : goal.returns-in_err-prices
 unfolding contracts_in
-returns-in-err-prices c =
+returns-in_err-prices c =
     let prices_long : length c.rows.new.out ≡ length c.lines.new.lists.prices.now = omega arith in
-    let p = err_from_is_err_and c.from-residual-in-err-prices.result c.from-residual-in-err-prices.ensures.1 in
-    let first = c.in-ok-futures.ensures in
+    let p = err_from_is_err_and c.from_residual-in_err-prices.result c.from_residual-in_err-prices.ensures.1 in
+    let first = c.in_ok-futures.ensures in
     let lines = read_yes _ _ _ _ _ _ _ first.answer in
-    let tells = c.in-err-prices.ensures in
+    let tells = c.in_err-prices.ensures in
     let at = c.lines.new.reader.at in
     let half = c.args.half in
     let next =
@@ -44,9 +44,9 @@ pub returns : goal.returns
 unfolding contracts_in
 returns c =
     let prices_long : length c.rows.new.out ≡ length c.lines.new.lists.prices.now = omega arith in
-    let first = c.in-ok-futures.ensures in
+    let first = c.in_ok-futures.ensures in
     let lines = read_yes _ _ _ _ _ _ _ first.answer in
-    let tells = c.in-ok-prices.ensures in
+    let tells = c.in_ok-prices.ensures in
     let prices = listed_yes _ _ _ _ _ tells.answer in
     let at = c.lines.new.reader.at in
     let half = c.args.half in

@@ -10,24 +10,24 @@ use Rattle.calls.proofs.Sizes.{left_at, limit_at}
 use Rattle.calls.proofs.accounts.Account.blocked.Goals as goal
 
 pub rests-rests-requires : goal.rests-rests-requires
-rests-rests-requires g c = rw c.as-slice.ensures.value (bounded g.B.Bank.meaning c.args.self.now).few_orders
+rests-rests-requires g c = rw c.as_slice.ensures.value (bounded g.B.Bank.meaning c.args.self.now).few_orders
 
 pub slice-bounds-rests-end : goal.slice-bounds-rests-end
 slice-bounds-rests-end g c =
     let few = (bounded g.B.Bank.meaning c.args.self.now).few_orders in
     omega (arith, c.rests-rests.ensures.long, c.len.ensures, c.args.self.now.orders.ok.0)
 
-pub slice-bounds-blocked-with-end : goal.slice-bounds-blocked-with-end
-slice-bounds-blocked-with-end g c =
+pub slice-bounds-blocked_with-end : goal.slice-bounds-blocked_with-end
+slice-bounds-blocked_with-end g c =
     let few = (bounded g.B.Bank.meaning c.args.self.now).few_orders in
     sym (length-take-le c.len.result c.rests-rests.result (omega (arith, c.rests-rests.ensures.long, c.len.ensures, c.args.self.now.orders.ok.0)))
 
-pub blocked-with-requires : goal.blocked-with-requires
-blocked-with-requires g c =
+pub blocked_with-requires : goal.blocked_with-requires
+blocked_with-requires g c =
     let a = c.args.self.now in
     let s = state_of g.B.Bank.meaning a in
     let b = bounded g.B.Bank.meaning a in
-    let rests = front_is rest_of (vec_items a.orders) _ c.rests-rests.result c.len.result c.as-slice.ensures.value (omega (arith, c.len.ensures, a.orders.ok.0)) c.rests-rests.ensures.value in
+    let rests = front_is rest_of (vec_items a.orders) _ c.rests-rests.result c.len.result c.as_slice.ensures.value (omega (arith, c.len.ensures, a.orders.ok.0)) c.rests-rests.ensures.value in
     record {
       few = rw rests (rw (length-map s.orders rest_of) b.few_orders);
       lefts = λ i. rw rests (left_at s b i);
@@ -38,6 +38,6 @@ pub returns : goal.returns
 returns g c =
     let a = c.args.self.now in
     let s = state_of g.B.Bank.meaning a in
-    let rests = front_is rest_of (vec_items a.orders) _ c.rests-rests.result c.len.result c.as-slice.ensures.value (omega (arith, c.len.ensures, a.orders.ok.0)) c.rests-rests.ensures.value in
-    let parts = subst (λ (os : List Open). BlockedFor s.bank s.cards (record { positions = s.positions; orders = os }) c.blocked-with.result) rests c.blocked-with.ensures in
+    let rests = front_is rest_of (vec_items a.orders) _ c.rests-rests.result c.len.result c.as_slice.ensures.value (omega (arith, c.len.ensures, a.orders.ok.0)) c.rests-rests.ensures.value in
+    let parts = subst (λ (os : List Open). BlockedFor s.bank s.cards (record { positions = s.positions; orders = os }) c.blocked_with.result) rests c.blocked_with.ensures in
     record { amount = parts.amount_is; parts = parts }

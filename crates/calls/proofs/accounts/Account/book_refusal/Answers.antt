@@ -14,12 +14,12 @@ use Rattle.calls.proofs.Signs.{back}
 use Rattle.calls.proofs.accounts.Account.book_refusal.Goals as goal
 
 -- the orders on trial, and how many contracts the new one has
-pub trial-refusal-requires : goal.trial-refusal-requires
-trial-refusal-requires g c =
+pub trial_refusal-requires : goal.trial_refusal-requires
+trial_refusal-requires g c =
     let a = c.args.self.now in
     let s = state_of g.B.Bank.meaning a in
     let b = bounded g.B.Bank.meaning a in
-    let front = front_is rest_of (vec_items a.orders) _ c.rests-trial.result c.len-count.result c.as-slice.ensures.value (omega (arith, c.len-count.ensures, a.orders.ok.0)) c.rests-trial.ensures.value in
+    let front = front_is rest_of (vec_items a.orders) _ c.rests-trial.result c.len-count.result c.as_slice.ensures.value (omega (arith, c.len-count.ensures, a.orders.ok.0)) c.rests-trial.ensures.value in
     let trial = one_added c.rests-trial.result (map rest_of s.orders) c.len-count.result c.args.order (omega (arith, c.rests-trial.ensures.long)) front in
     record {
       orders = record {
@@ -36,10 +36,10 @@ returns g c =
     let a = c.args.self.now in
     let s = state_of g.B.Bank.meaning a in
     let o = c.args.order in
-    let front = front_is rest_of (vec_items a.orders) _ c.rests-trial.result c.len-count.result c.as-slice.ensures.value (omega (arith, c.len-count.ensures, a.orders.ok.0)) c.rests-trial.ensures.value in
+    let front = front_is rest_of (vec_items a.orders) _ c.rests-trial.result c.len-count.result c.as_slice.ensures.value (omega (arith, c.len-count.ensures, a.orders.ok.0)) c.rests-trial.ensures.value in
     let trial = one_added c.rests-trial.result (map rest_of s.orders) c.len-count.result o (omega (arith, c.rests-trial.ensures.long)) front in
     let room : ltb (length s.orders) 32 ≡ true = lt-ltb (length s.orders) 32 (omega (arith, c.len-count.ensures, a.orders.ok.0)) in
-    c.trial-refusal.ensures
+    c.trial_refusal.ensures
     ∙ ap (λ (os : List Open). first_of (trial_checks s (record { positions = s.positions; orders = os }) o.line c.size.result)) trial
     ∙ ap (λ (n : ℕ). first_of (trial_checks s (book_with s o) o.line n)) (c.size.ensures ∙ ap nat_abs (back o.left (omega (arith, c.requires.left))))
     ∙ ap (λ (t : Bool). first_of (unless t OrdersFull ∷ trial_checks s (book_with s o) o.line (nat_abs o.left))) (sym room)

@@ -3,8 +3,8 @@ use Rattle.calls.proofs.Kept.{bounded}
 use Rattle.calls.proofs.Sizes.{net_at, cost_at}
 use Rattle.calls.proofs.accounts.Account.book_with.Goals as goal
 
-pub invariant-of-result : goal.invariant-of-result
-invariant-of-result g c =
+pub invariant_of-result : goal.invariant_of-result
+invariant_of-result g c =
     let s = state_of g.B.Bank.meaning c.args.self.now in
     let b = bounded g.B.Bank.meaning c.args.self.now in
-    (c.requires.few, (λ l. rw c.as-slice.ensures.value (net_at s b l), (λ l. rw c.as-slice.ensures.value (cost_at s b l), (c.requires.lefts, (c.requires.limits, tt)))))
+    record { few_orders = c.requires.few; nets = λ l. rw c.as_slice.ensures.value (net_at s b l); costs = λ l. rw c.as_slice.ensures.value (cost_at s b l); lefts = c.requires.lefts; limits = c.requires.limits }

@@ -16,18 +16,18 @@ returns-in-Err g c =
     let s = state_of g.B.Bank.meaning c.args.self.now in
     sym (refused s (Cancel c.args.number) c.in-Err.why (subst (λ (n : ℤ). first_of (checks s (Cancel n)) ≡ Some c.in-Err.why) (to_z-of_z w64 c.args.number c.ranges.number) c.in-Err.ensures))
 
-pub meet-at-requires : goal.meet-at-requires
-meet-at-requires g c =
+pub meet_at-requires : goal.meet_at-requires
+meet_at-requires g c =
     let s = state_of g.B.Bank.meaning c.args.self.now in
     let may = subst (λ (n : ℤ). MayMeet s n (Cancel n) (Ok c.in-Ok.place)) (to_z-of_z w64 c.args.number c.ranges.number) c.in-Ok.ensures in
     record { place = may.0.inside; small = (met_bounded s c.args.number c.in-Ok.place may.0 (bounded g.B.Bank.meaning c.args.self.now)).not_much_left; event = tt }
 
-pub invariant-of-self : goal.invariant-of-self
-invariant-of-self g c =
+pub invariant_of-self : goal.invariant_of-self
+invariant_of-self g c =
     let a = c.args.self.now in
     let s = state_of g.B.Bank.meaning a in
     let may = subst (λ (n : ℤ). MayMeet s n (Cancel n) (Ok c.in-Ok.place)) (to_z-of_z w64 c.args.number c.ranges.number) c.in-Ok.ensures in
-    (omega (arith, a.room, c.meet-at.ensures.capacity), (kept _ (cancel_kept s c.args.number c.in-Ok.place may.0 _ c.meet-at.ensures.items (bounded g.B.Bank.meaning a)), tt))
+    record { room = omega (arith, a.room, c.meet_at.ensures.capacity); bounds = kept _ (cancel_kept s c.args.number c.in-Ok.place may.0 _ c.meet_at.ensures.items (bounded g.B.Bank.meaning a)) }
 
 pub returns-in-Ok : goal.returns-in-Ok
 returns-in-Ok g c =
@@ -38,4 +38,4 @@ returns-in-Ok g c =
     let read = get_or_read s.orders c.in-Ok.place c.index.result.now may.0.inside c.index.ensures none_open in
     let left = ap (λ (o : Order). o.rest.left) read in
     let small = (met_bounded s c.args.number c.in-Ok.place may.0 b).not_much_left in
-    cancel_told s c.args.number c.in-Ok.place may.0 _ c.size-ended.result c.meet-at.ensures.items (c.size-ended.ensures ∙ ap nat_abs (back c.index.result.now.rest.left (rw left (omega arith)) ∙ left)) may.1
+    cancel_told s c.args.number c.in-Ok.place may.0 _ c.size-ended.result c.meet_at.ensures.items (c.size-ended.ensures ∙ ap nat_abs (back c.index.result.now.rest.left (rw left (omega arith)) ∙ left)) may.1

@@ -5,10 +5,10 @@ use Rattle.calls.proofs.Trading.{no_order_lem, this_order, found_none_in, first_
 use Rattle.calls.proofs.accounts.Account.cancellable.Goals as goal
 
 pub returns-in-None : goal.returns-in-None
-returns-in-None g c = no_order_lem _ _ (found_none_in c.args.number _ (vec_items c.args.self.now.orders) _ (to_z-of_z w64 c.args.number c.ranges.number) c.as-slice.ensures.value c.in-None.ensures)
+returns-in-None g c = no_order_lem _ _ (found_none_in c.args.number _ (vec_items c.args.self.now.orders) _ (to_z-of_z w64 c.args.number c.ranges.number) c.as_slice.ensures.value c.in-None.ensures)
 
 pub returns-in-Some : goal.returns-in-Some
 returns-in-Some g c =
     let s = state_of g.B.Bank.meaning c.args.self.now in
-    let first = first_in c.args.number _ s.orders _ c.in-Some.place (to_z-of_z w64 c.args.number c.ranges.number) c.as-slice.ensures.value c.in-Some.ensures in
+    let first = first_in c.args.number _ s.orders _ c.in-Some.place (to_z-of_z w64 c.args.number c.ranges.number) c.as_slice.ensures.value c.in-Some.ensures in
     (first, this_order _ _ _ (met_found s c.args.number c.in-Some.place first))

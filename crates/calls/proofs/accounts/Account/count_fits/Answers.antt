@@ -9,8 +9,8 @@ index-requires g c =
     let b = bounded g.B.Bank.meaning c.args.self.now in
     omega (arith, c.requires.line, b.a_position_a_line, b.a_count_a_line, c.args.self.now.accepted.ok.0)
 
-pub overflow-add-result : goal.overflow-add-result
-overflow-add-result g c =
+pub overflow_add-result : goal.overflow_add-result
+overflow_add-result g c =
     let b = bounded g.B.Bank.meaning c.args.self.now in
     let few = (b.each_line c.args.line (omega (arith, c.requires.line, b.a_position_a_line))).few_accepted in
     let read = c.index.ensures ∙ get_or_default (vec_items c.args.self.now.accepted) c.args.line _ 0 (omega (arith, c.requires.line, b.a_position_a_line, b.a_count_a_line)) in

@@ -8,8 +8,8 @@ use Rattle.account.proofs.Lines.{in_size}
 use Rattle.calls.proofs.Kept.{bounded}
 use Rattle.calls.proofs.accounts.Account.deposit_refusal.Goals as goal
 
-pub overflow-add-self : goal.overflow-add-self
-overflow-add-self g c =
+pub overflow_add-self : goal.overflow_add-self
+overflow_add-self g c =
     let fits = c.ranges.amount in
     let few = (bounded g.B.Bank.meaning c.args.self.now).collateral_bounded in
     let size = simp to_z-of_z at c.size.ensures in

@@ -11,14 +11,14 @@ use Rattle.calls.proofs.Steps.{none_refuses, accepted}
 use Rattle.calls.proofs.Kept.{bounded, kept}
 use Rattle.calls.proofs.accounts.Account.deposited.Goals as goal
 
-pub invariant-of-self : goal.invariant-of-self
-invariant-of-self g c =
+pub invariant_of-self : goal.invariant_of-self
+invariant_of-self g c =
     let fits = c.ranges.amount in
     let size = simp to_z-of_z at c.size.ensures in
     let s = state_of g.B.Bank.meaning c.args.self.now in
     let checks-pass = none_refuses (checks s (Deposit c.args.amount)) c.requires in
     let few = subst (λ (n : ℕ). s.collateral + n ≤ most_collateral) (sym size) (leb-true _ _ (passed _ CollateralTooLarge checks-pass.1.0)) in
-    (c.args.self.now.room, (kept _ (cash_bounded s (bounded g.B.Bank.meaning c.args.self.now) (s.collateral + c.size.result) few), tt))
+    record { room = c.args.self.now.room; bounds = kept _ (cash_bounded s (bounded g.B.Bank.meaning c.args.self.now) (s.collateral + c.size.result) few) }
 
 pub returns : goal.returns
 returns g c =

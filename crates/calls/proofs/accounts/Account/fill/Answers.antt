@@ -53,12 +53,12 @@ moved-requires g c =
     record {
       net = rw before sizes.net_small;
       cost = rw before sizes.cost_small;
-      contracts = rw (back c.with-sign-of-contracts.result (omega (arith, c.with-sign-of-contracts.ensures.sized))) c.with-sign-of-contracts.ensures.sized;
+      contracts = rw (back c.with_sign_of-contracts.result (omega (arith, c.with_sign_of-contracts.ensures.sized))) c.with_sign_of-contracts.ensures.sized;
       price = rw (to_z-of_z w64 c.args.price c.ranges.price) small.1;
     }
 
-pub index-mut-requires : goal.index-mut-requires
-index-mut-requires g c =
+pub index_mut-requires : goal.index_mut-requires
+index_mut-requires g c =
     let a = c.args.self.now in
     let s = state_of g.B.Bank.meaning a in
     let b = bounded g.B.Bank.meaning a in
@@ -69,8 +69,8 @@ index-mut-requires g c =
     let inside : c.index.result.now.rest.line < length s.positions = rw (line, b.a_position_a_line) order.of_a_line in
     omega (arith, a.positions.ok.0)
 
-pub meet-at-requires : goal.meet-at-requires
-meet-at-requires g c =
+pub meet_at-requires : goal.meet_at-requires
+meet_at-requires g c =
     let a = c.args.self.now in
     let s = state_of g.B.Bank.meaning a in
     let b = bounded g.B.Bank.meaning a in
@@ -81,8 +81,8 @@ meet-at-requires g c =
     let small = fill_small s c.args.number c.args.quantity c.args.price may.1 in
     record { place = may.0.inside; small = order.not_much_left; event = rw (to_z-of_z w64 c.args.quantity c.ranges.quantity) small.0 }
 
-pub invariant-of-self : goal.invariant-of-self
-invariant-of-self g c =
+pub invariant_of-self : goal.invariant_of-self
+invariant_of-self g c =
     let a = c.args.self.now in
     let s = state_of g.B.Bank.meaning a in
     let b = bounded g.B.Bank.meaning a in
@@ -93,11 +93,11 @@ invariant-of-self g c =
     let inside : c.index.result.now.rest.line < length s.positions = rw (line, b.a_position_a_line) order.of_a_line in
     let small = fill_small s c.args.number c.args.quantity c.args.price may.1 in
     let left = ap (λ (o : Order). o.rest.left) read in
-    let contracts : to_z w64 (of_z w64 c.with-sign-of-contracts.result) ≡ signed (get_or s.orders c.in-Ok.place none_open).rest.left c.args.quantity = back c.with-sign-of-contracts.result (omega (arith, c.with-sign-of-contracts.ensures.sized)) ∙ c.with-sign-of-contracts.ensures.value ∙ ap₂ signed (back c.index.result.now.rest.left (rw left (omega (arith, order.not_much_left))) ∙ left) (to_z-of_z w64 c.args.quantity c.ranges.quantity) in
+    let contracts : to_z w64 (of_z w64 c.with_sign_of-contracts.result) ≡ signed (get_or s.orders c.in-Ok.place none_open).rest.left c.args.quantity = back c.with_sign_of-contracts.result (omega (arith, c.with_sign_of-contracts.ensures.sized)) ∙ c.with_sign_of-contracts.ensures.value ∙ ap₂ signed (back c.index.result.now.rest.left (rw left (omega (arith, order.not_much_left))) ∙ left) (to_z-of_z w64 c.args.quantity c.ranges.quantity) in
     let before = get_or_read s.positions c.index.result.now.rest.line c.index-in-Ok.result.now inside c.index-in-Ok.ensures no_position ∙ ap (λ (l : ℕ). get_or s.positions l no_position) line in
     let positions = moved_in s.positions c.index.result.now.rest.line _ c.moved.result c.index-in-Ok.result.now _ _ c.args.price line (c.moved.ensures ∙ ap (moved c.index-in-Ok.result.now _) (to_z-of_z w64 c.args.price c.ranges.price)) before contracts in
-    let orders = c.meet-at.ensures.items ∙ ap (λ (q : ℤ). met_at c.in-Ok.place (Filled q) s.orders) (to_z-of_z w64 c.args.quantity c.ranges.quantity) in
-    (omega (arith, a.room, c.meet-at.ensures.capacity), (kept _ (fill_kept s c.args.number c.in-Ok.place may.0 c.args.quantity c.args.price may.1 _ _ positions orders b), tt))
+    let orders = c.meet_at.ensures.items ∙ ap (λ (q : ℤ). met_at c.in-Ok.place (Filled q) s.orders) (to_z-of_z w64 c.args.quantity c.ranges.quantity) in
+    record { room = omega (arith, a.room, c.meet_at.ensures.capacity); bounds = kept _ (fill_kept s c.args.number c.in-Ok.place may.0 c.args.quantity c.args.price may.1 _ _ positions orders b) }
 
 pub returns-in-Ok : goal.returns-in-Ok
 returns-in-Ok g c =
@@ -111,8 +111,8 @@ returns-in-Ok g c =
     let inside : c.index.result.now.rest.line < length s.positions = rw (line, b.a_position_a_line) order.of_a_line in
     let small = fill_small s c.args.number c.args.quantity c.args.price may.1 in
     let left = ap (λ (o : Order). o.rest.left) read in
-    let contracts : to_z w64 (of_z w64 c.with-sign-of-contracts.result) ≡ signed (get_or s.orders c.in-Ok.place none_open).rest.left c.args.quantity = back c.with-sign-of-contracts.result (omega (arith, c.with-sign-of-contracts.ensures.sized)) ∙ c.with-sign-of-contracts.ensures.value ∙ ap₂ signed (back c.index.result.now.rest.left (rw left (omega (arith, order.not_much_left))) ∙ left) (to_z-of_z w64 c.args.quantity c.ranges.quantity) in
+    let contracts : to_z w64 (of_z w64 c.with_sign_of-contracts.result) ≡ signed (get_or s.orders c.in-Ok.place none_open).rest.left c.args.quantity = back c.with_sign_of-contracts.result (omega (arith, c.with_sign_of-contracts.ensures.sized)) ∙ c.with_sign_of-contracts.ensures.value ∙ ap₂ signed (back c.index.result.now.rest.left (rw left (omega (arith, order.not_much_left))) ∙ left) (to_z-of_z w64 c.args.quantity c.ranges.quantity) in
     let before = get_or_read s.positions c.index.result.now.rest.line c.index-in-Ok.result.now inside c.index-in-Ok.ensures no_position ∙ ap (λ (l : ℕ). get_or s.positions l no_position) line in
     let positions = moved_in s.positions c.index.result.now.rest.line _ c.moved.result c.index-in-Ok.result.now _ _ c.args.price line (c.moved.ensures ∙ ap (moved c.index-in-Ok.result.now _) (to_z-of_z w64 c.args.price c.ranges.price)) before contracts in
-    let orders = c.meet-at.ensures.items ∙ ap (λ (q : ℤ). met_at c.in-Ok.place (Filled q) s.orders) (to_z-of_z w64 c.args.quantity c.ranges.quantity) in
-    fill_told s c.args.number c.in-Ok.place may.0 c.args.quantity c.args.price may.1 _ _ positions orders c.meet-at.result (c.meet-at.ensures.left ∙ left_after _ c.args.quantity (get_or s.orders c.in-Ok.place none_open) (to_z-of_z w64 c.args.quantity c.ranges.quantity))
+    let orders = c.meet_at.ensures.items ∙ ap (λ (q : ℤ). met_at c.in-Ok.place (Filled q) s.orders) (to_z-of_z w64 c.args.quantity c.ranges.quantity) in
+    fill_told s c.args.number c.in-Ok.place may.0 c.args.quantity c.args.price may.1 _ _ positions orders c.meet_at.result (c.meet_at.ensures.left ∙ left_after _ c.args.quantity (get_or s.orders c.in-Ok.place none_open) (to_z-of_z w64 c.args.quantity c.ranges.quantity))

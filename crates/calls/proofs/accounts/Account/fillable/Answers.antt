@@ -18,7 +18,7 @@ rest quantity price o = unless (le_z quantity (pos (nat_abs o.rest.left))) MoreT
 pub index-requires : goal.index-requires
 index-requires g c =
     let a = c.args.self.now in
-    let first = first_in c.args.number _ (vec_items a.orders) _ c.in-Some.place (to_z-of_z w64 c.args.number c.ranges.number) c.as-slice.ensures.value c.in-Some.ensures in
+    let first = first_in c.args.number _ (vec_items a.orders) _ c.in-Some.place (to_z-of_z w64 c.args.number c.ranges.number) c.as_slice.ensures.value c.in-Some.ensures in
     omega (arith, first.inside, a.orders.ok.0)
 
 pub returns-in-None : goal.returns-in-None
@@ -28,34 +28,34 @@ returns-in-None g c =
     let quantity : quantity_fits c.args.quantity ≡ true = sym (simp to_z-of_z at c.between.ensures) ∙ c.if-not-between.false in
     let price : price_fits c.args.price ≡ true = sym (simp to_z-of_z at c.between-2.ensures) ∙ c.if-not-between-2.false in
     two_pass _ _ BadQuantity BadPrice _ quantity price
-    ∙ no_order_lem _ _ (found_none_in c.args.number _ (vec_items c.args.self.now.orders) _ (to_z-of_z w64 c.args.number c.ranges.number) c.as-slice.ensures.value c.in-None.ensures)
+    ∙ no_order_lem _ _ (found_none_in c.args.number _ (vec_items c.args.self.now.orders) _ (to_z-of_z w64 c.args.number c.ranges.number) c.as_slice.ensures.value c.in-None.ensures)
 
-pub returns-in-Some-fill-refusal : goal.returns-in-Some-fill-refusal
-returns-in-Some-fill-refusal g c =
+pub returns-in-Some-fill_refusal : goal.returns-in-Some-fill_refusal
+returns-in-Some-fill_refusal g c =
     let s = state_of g.B.Bank.meaning c.args.self.now in
     let fits-quantity = c.ranges.quantity in
     let fits-price = c.ranges.price in
     let quantity : quantity_fits c.args.quantity ≡ true = sym (simp to_z-of_z at c.between.ensures) ∙ c.if-not-between.false in
     let price : price_fits c.args.price ≡ true = sym (simp to_z-of_z at c.between-2.ensures) ∙ c.if-not-between-2.false in
-    let first = first_in c.args.number _ s.orders _ c.in-Some.place (to_z-of_z w64 c.args.number c.ranges.number) c.as-slice.ensures.value c.in-Some.ensures in
+    let first = first_in c.args.number _ s.orders _ c.in-Some.place (to_z-of_z w64 c.args.number c.ranges.number) c.as_slice.ensures.value c.in-Some.ensures in
     let read = get_or_read s.orders c.in-Some.place c.index.result.now first.inside c.index.ensures none_open in
     two_pass _ _ BadQuantity BadPrice _ quantity price
     ∙ this_order _ _ (rest c.args.quantity c.args.price) (met_found s c.args.number c.in-Some.place first)
     ∙ ap (λ (o : Order). first_of (rest c.args.quantity c.args.price o)) (sym read)
-    ∙ sym (simp to_z-of_z at c.fill-refusal.ensures) ∙ c.in-Some-fill-refusal.is
+    ∙ sym (simp to_z-of_z at c.fill_refusal.ensures) ∙ c.in-Some-fill_refusal.is
 
-pub returns-in-None-fill-refusal : goal.returns-in-None-fill-refusal
-returns-in-None-fill-refusal g c =
+pub returns-in-None-fill_refusal : goal.returns-in-None-fill_refusal
+returns-in-None-fill_refusal g c =
     let s = state_of g.B.Bank.meaning c.args.self.now in
     let fits-quantity = c.ranges.quantity in
     let fits-price = c.ranges.price in
     let quantity : quantity_fits c.args.quantity ≡ true = sym (simp to_z-of_z at c.between.ensures) ∙ c.if-not-between.false in
     let price : price_fits c.args.price ≡ true = sym (simp to_z-of_z at c.between-2.ensures) ∙ c.if-not-between-2.false in
-    let first = first_in c.args.number _ s.orders _ c.in-Some.place (to_z-of_z w64 c.args.number c.ranges.number) c.as-slice.ensures.value c.in-Some.ensures in
+    let first = first_in c.args.number _ s.orders _ c.in-Some.place (to_z-of_z w64 c.args.number c.ranges.number) c.as_slice.ensures.value c.in-Some.ensures in
     let read = get_or_read s.orders c.in-Some.place c.index.result.now first.inside c.index.ensures none_open in (
       first,
       two_pass _ _ BadQuantity BadPrice _ quantity price
           ∙ this_order _ _ (rest c.args.quantity c.args.price) (met_found s c.args.number c.in-Some.place first)
           ∙ ap (λ (o : Order). first_of (rest c.args.quantity c.args.price o)) (sym read)
-          ∙ sym (simp to_z-of_z at c.fill-refusal.ensures) ∙ c.in-None-fill-refusal.is,
+          ∙ sym (simp to_z-of_z at c.fill_refusal.ensures) ∙ c.in-None-fill_refusal.is,
     )

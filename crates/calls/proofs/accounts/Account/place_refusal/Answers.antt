@@ -12,17 +12,17 @@ use Rattle.calls.proofs.Kept.{bounded}
 use Rattle.calls.proofs.Placing.{contracts_fit, price_fits_lem, asked_is, three_pass, trial_is}
 use Rattle.calls.proofs.accounts.Account.place_refusal.Goals as goal
 
-pub book-refusal-requires : goal.book-refusal-requires
-book-refusal-requires g c =
+pub book_refusal-requires : goal.book_refusal-requires
+book_refusal-requires g c =
     let a = c.args.self.now in
     let s = state_of g.B.Bank.meaning a in
     let b = bounded g.B.Bank.meaning a in
     let fits_line = c.ranges.line in
     let fits-quantity = c.ranges.quantity in
     let fits-limit = c.ranges.limit in
-    let has : name_fits (length s.cards.lines) c.args.line ≡ true = sym (simp to_z-of_z at c.has-line.ensures) ∙ c.if-not-has-line.false in
+    let has : name_fits (length s.cards.lines) c.args.line ≡ true = sym (simp to_z-of_z at c.has_line.ensures) ∙ c.if-not-has_line.false in
     let order = asked_is (length s.cards.lines) c.args.line c.args.quantity c.args.limit c.asked.result has (simp to_z-of_z at c.asked.ensures) in
-    let contracts : quantity_fits (pos (nat_abs c.args.quantity)) ≡ true = sym (c.quantity-fits.ensures ∙ ap (λ n. quantity_fits (pos n)) (simp to_z-of_z at c.size.ensures)) ∙ c.if-not-quantity-fits.false in
+    let contracts : quantity_fits (pos (nat_abs c.args.quantity)) ≡ true = sym (c.quantity_fits.ensures ∙ ap (λ n. quantity_fits (pos n)) (simp to_z-of_z at c.size.ensures)) ∙ c.if-not-quantity_fits.false in
     let price : price_fits c.args.limit ≡ true = sym (simp to_z-of_z at c.between.ensures) ∙ c.if-not-between.false in
     record {
       line = rw order (rw b.a_position_a_line (one_of (length s.cards.lines) c.args.line has));
@@ -38,11 +38,11 @@ returns g c =
     let fits_line = c.ranges.line in
     let fits-quantity = c.ranges.quantity in
     let fits-limit = c.ranges.limit in
-    let has : name_fits (length s.cards.lines) c.args.line ≡ true = sym (simp to_z-of_z at c.has-line.ensures) ∙ c.if-not-has-line.false in
+    let has : name_fits (length s.cards.lines) c.args.line ≡ true = sym (simp to_z-of_z at c.has_line.ensures) ∙ c.if-not-has_line.false in
     let order = asked_is (length s.cards.lines) c.args.line c.args.quantity c.args.limit c.asked.result has (simp to_z-of_z at c.asked.ensures) in
-    let contracts : quantity_fits (pos (nat_abs c.args.quantity)) ≡ true = sym (c.quantity-fits.ensures ∙ ap (λ n. quantity_fits (pos n)) (simp to_z-of_z at c.size.ensures)) ∙ c.if-not-quantity-fits.false in
+    let contracts : quantity_fits (pos (nat_abs c.args.quantity)) ≡ true = sym (c.quantity_fits.ensures ∙ ap (λ n. quantity_fits (pos n)) (simp to_z-of_z at c.size.ensures)) ∙ c.if-not-quantity_fits.false in
     let price : price_fits c.args.limit ≡ true = sym (simp to_z-of_z at c.between.ensures) ∙ c.if-not-between.false in
-    c.book-refusal.ensures
+    c.book_refusal.ensures
     ∙ ap (λ (o : Open). first_of (unless (ltb (length s.orders) 32) OrdersFull ∷ trial_checks s (book_with s o) o.line (nat_abs o.left))) order
     ∙ ap (λ rest. first_of (unless (ltb (length s.orders) 32) OrdersFull ∷ rest)) (trial_is s c.args.line c.args.quantity c.args.limit (rw b.a_count_a_line (one_of (length s.cards.lines) c.args.line has)))
     ∙ three_pass _ _ _ NoSuchLine BadQuantity BadPrice _ has contracts price

@@ -10,8 +10,8 @@ use Rattle.calls.proofs.Placing.{line_inside, few_contracts, next_small, placed_
 use Rattle.calls.proofs.Signs.{back}
 use Rattle.calls.proofs.accounts.Account.placed.Goals as goal
 
-pub index-mut-requires : goal.index-mut-requires
-index-mut-requires g c =
+pub index_mut-requires : goal.index_mut-requires
+index_mut-requires g c =
     let a = c.args.self.now in
     let o = c.args.order in
     let s = state_of g.B.Bank.meaning a in
@@ -19,8 +19,8 @@ index-mut-requires g c =
     let inside = line_inside s b o.line o.left o.limit (none_refuses (bound_checks s (pos o.line) o.left o.limit) c.requires) in
     omega (arith, b.a_count_a_line, a.accepted.ok.0)
 
-pub overflow-add-self : goal.overflow-add-self
-overflow-add-self g c =
+pub overflow_add-self : goal.overflow_add-self
+overflow_add-self g c =
     let a = c.args.self.now in
     let o = c.args.order in
     let s = state_of g.B.Bank.meaning a in
@@ -28,19 +28,19 @@ overflow-add-self g c =
     let h = none_refuses (bound_checks s (pos o.line) o.left o.limit) c.requires in
     let inside = line_inside s b o.line o.left o.limit h in
     let few = (b.each_line o.line inside).few_accepted in
-    let read = c.index-mut.ensures.value ∙ get_or_default (vec_items a.accepted) o.line _ 0 (omega (arith, b.a_count_a_line)) in
+    let read = c.index_mut.ensures.value ∙ get_or_default (vec_items a.accepted) o.line _ 0 (omega (arith, b.a_count_a_line)) in
     let contracts = few_contracts s b o.line o.left o.limit h in
     let size = c.size.ensures ∙ ap nat_abs (back o.left (omega arith)) in
     omega arith
 
-pub overflow-add-self-2 : goal.overflow-add-self-2
-overflow-add-self-2 g c =
+pub overflow_add-self-2 : goal.overflow_add-self-2
+overflow_add-self-2 g c =
     let a = c.args.self.now in
     let few = next_small (state_of g.B.Bank.meaning a) (bounded g.B.Bank.meaning a) (omega (arith, a.deck.few_lines, a.deck.lines.ok.0)) in
     omega arith
 
-pub invariant-of-self : goal.invariant-of-self
-invariant-of-self g c =
+pub invariant_of-self : goal.invariant_of-self
+invariant_of-self g c =
     let a = c.args.self.now in
     let o = c.args.order in
     let s = state_of g.B.Bank.meaning a in
@@ -48,9 +48,9 @@ invariant-of-self g c =
     let h = none_refuses (bound_checks s (pos o.line) o.left o.limit) c.requires in
     let inside = line_inside s b o.line o.left o.limit h in
     let contracts = few_contracts s b o.line o.left o.limit h in
-    let count = ap (λ n. n + c.size.result) (c.index-mut.ensures.value ∙ get_or_default (vec_items a.accepted) o.line _ 0 (omega (arith, b.a_count_a_line))) ∙ ap (λ n. get_or s.accepted o.line 0 + n) (c.size.ensures ∙ ap nat_abs (back o.left (omega arith))) in
-    let same = placed_is s o.line o.left o.limit _ _ _ c.push-reserved.ensures.items count refl in
-    (omega (arith, a.room, c.push-reserved.ensures.capacity), (kept _ (subst InBounds (sym same) (place_bounded s b (pos o.line) o.left o.limit h)), tt))
+    let count = ap (λ n. n + c.size.result) (c.index_mut.ensures.value ∙ get_or_default (vec_items a.accepted) o.line _ 0 (omega (arith, b.a_count_a_line))) ∙ ap (λ n. get_or s.accepted o.line 0 + n) (c.size.ensures ∙ ap nat_abs (back o.left (omega arith))) in
+    let same = placed_is s o.line o.left o.limit _ _ _ c.push_reserved.ensures.items count refl in
+    record { room = omega (arith, a.room, c.push_reserved.ensures.capacity); bounds = kept _ (subst InBounds (sym same) (place_bounded s b (pos o.line) o.left o.limit h)) }
 
 pub returns : goal.returns
 returns g c =
@@ -61,5 +61,5 @@ returns g c =
     let h = none_refuses (bound_checks s (pos o.line) o.left o.limit) c.requires in
     let inside = line_inside s b o.line o.left o.limit h in
     let contracts = few_contracts s b o.line o.left o.limit h in
-    let count = ap (λ n. n + c.size.result) (c.index-mut.ensures.value ∙ get_or_default (vec_items a.accepted) o.line _ 0 (omega (arith, b.a_count_a_line))) ∙ ap (λ n. get_or s.accepted o.line 0 + n) (c.size.ensures ∙ ap nat_abs (back o.left (omega arith))) in
-    record { state = placed_is s o.line o.left o.limit _ _ _ c.push-reserved.ensures.items count refl; number = refl }
+    let count = ap (λ n. n + c.size.result) (c.index_mut.ensures.value ∙ get_or_default (vec_items a.accepted) o.line _ 0 (omega (arith, b.a_count_a_line))) ∙ ap (λ n. get_or s.accepted o.line 0 + n) (c.size.ensures ∙ ap nat_abs (back o.left (omega arith))) in
+    record { state = placed_is s o.line o.left o.limit _ _ _ c.push_reserved.ensures.items count refl; number = refl }

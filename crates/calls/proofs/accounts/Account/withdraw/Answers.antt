@@ -8,5 +8,5 @@ use Rattle.calls.proofs.accounts.Account.withdraw.Goals as goal
 pub returns-in-Some : goal.returns-in-Some
 returns-in-Some g c =
     let fits = c.ranges.amount in
-    let judged = simp to_z-of_z at c.withdraw-refusal.ensures in
+    let judged = simp to_z-of_z at c.withdraw_refusal.ensures in
     sym (refused (state_of g.B.Bank.meaning c.args.self.now) (Withdraw c.args.amount) c.in-Some.why (sym judged ∙ c.in-Some.is))

@@ -8,12 +8,12 @@ use Rattle.calls.proofs.Steps.{accepted}
 use Rattle.calls.proofs.Kept.{bounded, kept}
 use Rattle.calls.proofs.accounts.Account.withdrawn.Goals as goal
 
-pub invariant-of-self : goal.invariant-of-self
-invariant-of-self g c =
+pub invariant_of-self : goal.invariant_of-self
+invariant_of-self g c =
     let s = state_of g.B.Bank.meaning c.args.self.now in
     let b = bounded g.B.Bank.meaning c.args.self.now in
     let few : s.collateral - c.size.result ≤ most_collateral = omega (arith, b.collateral_bounded) in
-    (c.args.self.now.room, (kept _ (cash_bounded s b (s.collateral - c.size.result) few), tt))
+    record { room = c.args.self.now.room; bounds = kept _ (cash_bounded s b (s.collateral - c.size.result) few) }
 
 pub returns : goal.returns
 returns g c =

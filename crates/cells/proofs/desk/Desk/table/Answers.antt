@@ -15,5 +15,5 @@ pub loop-i-preserved : goal.loop-i-preserved
 loop-i-preserved g c =
     let desk = c.args.self.now in
     let cards = deck_cards desk.deck.now in
-    let fits : SFits w128 c.month-cell.result = search rules in
-    simp to_z-of_z (one_placed (at_place (month_share desk.last (g.B.Bank.meaning desk.bank.now).price cards (book_of desk.book))) (2 ^ 70) 952 c.loop-i.i c.loop-i.cells c.month-cell.result c.loop-i.invariant (omega arith) c.month-cell.ensures.value (omega (arith, c.month-cell.ensures.size)))
+    let fits : SFits w128 c.month_cell.result = search rules in
+    simp to_z-of_z (one_placed (at_place (month_share desk.last (g.B.Bank.meaning desk.bank.now).price cards (book_of desk.book))) (2 ^ 70) 952 c.loop-i.i c.loop-i.cells c.month_cell.result c.loop-i.invariant (omega arith) c.month_cell.ensures.value (omega (arith, c.month_cell.ensures.size)))

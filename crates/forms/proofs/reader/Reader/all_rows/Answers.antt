@@ -14,10 +14,10 @@ returns-then-out-end c =
     let full : length c.args.out.now < length (take c.loop-index.end c.loop-index.out) + points c.args.half = omega (arith, c.points.ensures) in
     record { answer = listed_err _ _ _ _ _ (ap (λ n. Err (WrongForm n)) c.place.ensures ∙ rows_full _ _ _ _ _ _ _ _ c.loop-index-test.true full ∙ c.loop-index.invariant.3); same = c.loop-index.invariant.0 }
 
-pub returns-in-err-end : goal.returns-in-err-end
-returns-in-err-end c =
-    let p = err_from_is_err_and c.from-residual.result c.from-residual.ensures.1 in
-    let tells = c.in-err-end.ensures in
+pub returns-in_err-end : goal.returns-in_err-end
+returns-in_err-end c =
+    let p = err_from_is_err_and c.from_residual.result c.from_residual.ensures.1 in
+    let tells = c.in_err-end.ensures in
     let before = take c.loop-index.end c.loop-index.out in
     let long = length-take-le c.loop-index.end c.loop-index.out c.loop-index.invariant.1 in
     let room : length before + points c.args.half ≤ length c.args.out.now = omega (arith, c.points.ensures) in
@@ -26,10 +26,10 @@ returns-in-err-end c =
 
 pub loop-index-preserved : goal.loop-index-preserved
 loop-index-preserved c =
-    let tells = c.in-ok-end.ensures in
+    let tells = c.in_ok-end.ensures in
     let out = c.loop-index.out in
     let end = c.loop-index.end in
-    let next = c.in-ok-end.end in
+    let next = c.in_ok-end.end in
     let entry = c.args.out.now in
     let before = take end out in
     let read = listed_yes c.row.new.self.at out c.row.new.out (row_in (c.args.first + c.loop-index.index / 7) (c.loop-index.index % 7) c.args.half c.loop-index.self.text.now before c.loop-index.self.at) next tells.answer in

@@ -5,25 +5,25 @@ use Rattle.forms.specs.Rows.{is_due, due_in}
 use Rattle.forms.proofs.Told.{then_ok, then_err, given_yes, given_no}
 use Rattle.forms.proofs.reader.Reader.due_number.Goals as goal
 
-pub returns-in-err-number : goal.returns-in-err-number
+pub returns-in_err-number : goal.returns-in_err-number
 unfolding due_in
-returns-in-err-number c =
-    let p = err_from_is_err_and c.from-residual.result c.from-residual.ensures.1 in
-    let tells = c.in-err-number.ensures in
+returns-in_err-number c =
+    let p = err_from_is_err_and c.from_residual.result c.from_residual.ensures.1 in
+    let tells = c.in_err-number.ensures in
     rw (p.1, p.2) (record { answer = then_err _ _ _ tells.answer; same = tells.same })
 
-pub returns-then-is-due : goal.returns-then-is-due
+pub returns-then-is_due : goal.returns-then-is_due
 unfolding due_in
-returns-then-is-due c =
-    let fits : SFits w64 c.in-ok-number.number = search rules in
-    let tells = c.in-ok-number.ensures in
-    let due : true ≡ is_due c.args.due c.in-ok-number.number = simp (to_z-of_z w64 c.in-ok-number.number fits) at (sym c.if-is-due.true ∙ c.is-due.ensures) in
+returns-then-is_due c =
+    let fits : SFits w64 c.in_ok-number.number = search rules in
+    let tells = c.in_ok-number.ensures in
+    let due : true ≡ is_due c.args.due c.in_ok-number.number = simp (to_z-of_z w64 c.in_ok-number.number fits) at (sym c.if-is_due.true ∙ c.is_due.ensures) in
     record { answer = then_ok _ _ _ _ _ tells.answer (given_yes _ _ _ _ due refl); same = tells.same }
 
-pub returns-else-is-due : goal.returns-else-is-due
+pub returns-else-is_due : goal.returns-else-is_due
 unfolding due_in
-returns-else-is-due c =
-    let fits : SFits w64 c.in-ok-number.number = search rules in
-    let tells = c.in-ok-number.ensures in
-    let other : false ≡ is_due c.args.due c.in-ok-number.number = simp (to_z-of_z w64 c.in-ok-number.number fits) at (sym c.if-is-due.false ∙ c.is-due.ensures) in
+returns-else-is_due c =
+    let fits : SFits w64 c.in_ok-number.number = search rules in
+    let tells = c.in_ok-number.ensures in
+    let other : false ≡ is_due c.args.due c.in_ok-number.number = simp (to_z-of_z w64 c.in_ok-number.number fits) at (sym c.if-is_due.false ∙ c.is_due.ensures) in
     record { answer = then_ok _ _ _ _ _ tells.answer (given_no _ _ _ other); same = tells.same }

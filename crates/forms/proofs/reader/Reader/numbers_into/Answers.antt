@@ -17,10 +17,10 @@ loop-index-init c =
           ∙ ap (λ n. numbers_in added c.args.field.now.allowed text c.args.field.now.count 0 (take n c.args.out.now) c.args.self.now.at) (add-zero c.args.from),
     )
 
-pub returns-in-err-value : goal.returns-in-err-value
-returns-in-err-value c =
-    let p = err_from_is_err_and c.from-residual.result c.from-residual.ensures.1 in
-    let tells = c.in-err-value.ensures in
+pub returns-in_err-value : goal.returns-in_err-value
+returns-in_err-value c =
+    let p = err_from_is_err_and c.from_residual.result c.from_residual.ensures.1 in
+    let tells = c.in_err-value.ensures in
     let here = tells.answer ∙ ap (λ t. spaced_in c.args.field.now.allowed t c.loop-index.self.at) c.loop-index.invariant.0 in
     rw (p.1, p.2) (record {
       answer = listed_err _ _ _ _ _ (numbers_break _ _ _ _ _ _ _ _ c.loop-index-test.true here ∙ c.loop-index.invariant.2);
@@ -29,8 +29,8 @@ returns-in-err-value c =
 
 pub loop-index-preserved : goal.loop-index-preserved
 loop-index-preserved c =
-    let tells = c.in-ok-value.ensures in
-    let value = c.in-ok-value.value in
+    let tells = c.in_ok-value.ensures in
+    let value = c.in_ok-value.value in
     let fits : SFits w64 value = search rules in
     let stored = to_z w64 (of_z w64 value) in
     let here = tells.answer ∙ ap (λ t. spaced_in c.args.field.now.allowed t c.loop-index.self.at) c.loop-index.invariant.0 in
@@ -42,7 +42,7 @@ loop-index-preserved c =
     let written = ap (λ n. take n (set out place stored)) next ∙ take_more_set out place stored inside ∙ ap (λ v. take place out ++ (v ∷ [])) (to_z-of_z w64 value fits) in (
       tells.same ∙ c.loop-index.invariant.0,
       drop-set-lt (c.args.from + (c.loop-index.index + 1)) out place stored (omega arith) ∙ ap (λ n. drop n out) next ∙ sym (drop-drop 1 place out) ∙ ap (drop 1) c.loop-index.invariant.1 ∙ drop-drop 1 place before ∙ ap (λ n. drop n before) (sym next),
-      ap (λ ps. numbers_in added c.args.field.now.allowed c.args.self.now.text.now (c.args.field.now.count - (c.loop-index.index + 1)) (c.loop-index.index + 1) ps c.spaced-number.new.self.at) written
+      ap (λ ps. numbers_in added c.args.field.now.allowed c.args.self.now.text.now (c.args.field.now.count - (c.loop-index.index + 1)) (c.loop-index.index + 1) ps c.spaced_number.new.self.at) written
           ∙ numbers_more _ _ _ _ _ _ _ _ _ c.loop-index-test.true here ∙ c.loop-index.invariant.2,
     )
 

@@ -4,26 +4,26 @@ use Rattle.forms.specs.Reads.{byte_in}
 use Rattle.forms.proofs.Told.{then_ok, then_err, open_missing, open_more}
 use Rattle.forms.proofs.reader.Reader.open_inner.Goals as goal
 
-pub returns-then-stands-here : goal.returns-then-stands-here
-returns-then-stands-here c = record { answer = open_missing _ _ c.if-stands-here.ensures; same = refl }
+pub returns-then-stands_here : goal.returns-then-stands_here
+returns-then-stands_here c = record { answer = open_missing _ _ c.if-stands_here.ensures; same = refl }
 
-pub returns-in-err-expect : goal.returns-in-err-expect
-returns-in-err-expect c =
-    let p = err_from_is_err_and c.from-residual.result c.from-residual.ensures.1 in
-    let tells = c.in-err-expect.ensures in
-    rw (p.1, p.2) (record { answer = open_more _ _ _ c.if-stands-here.ensures (then_err _ _ _ tells.answer); same = tells.same })
+pub returns-in_err-expect : goal.returns-in_err-expect
+returns-in_err-expect c =
+    let p = err_from_is_err_and c.from_residual.result c.from_residual.ensures.1 in
+    let tells = c.in_err-expect.ensures in
+    rw (p.1, p.2) (record { answer = open_more _ _ _ c.if-stands_here.ensures (then_err _ _ _ tells.answer); same = tells.same })
 
-pub returns-in-err-expect-2 : goal.returns-in-err-expect-2
-returns-in-err-expect-2 c =
-    let p = err_from_is_err_and c.from-residual-in-err-expect-2.result c.from-residual-in-err-expect-2.ensures.1 in
-    let first = c.in-ok-expect.ensures in
-    let tells = c.in-err-expect-2.ensures in
+pub returns-in_err-expect-2 : goal.returns-in_err-expect-2
+returns-in_err-expect-2 c =
+    let p = err_from_is_err_and c.from_residual-in_err-expect-2.result c.from_residual-in_err-expect-2.ensures.1 in
+    let first = c.in_ok-expect.ensures in
+    let tells = c.in_err-expect-2.ensures in
     let next = tells.answer ∙ ap (λ t. byte_in 40 t c.expect.new.self.at) first.same in
-    rw (p.1, p.2) (record { answer = open_more _ _ _ c.if-stands-here.ensures (then_ok _ _ _ _ _ first.answer (then_err _ _ _ next)); same = tells.same ∙ first.same })
+    rw (p.1, p.2) (record { answer = open_more _ _ _ c.if-stands_here.ensures (then_ok _ _ _ _ _ first.answer (then_err _ _ _ next)); same = tells.same ∙ first.same })
 
 pub returns : goal.returns
 returns c =
-    let first = c.in-ok-expect.ensures in
-    let tells = c.in-ok-expect-2.ensures in
+    let first = c.in_ok-expect.ensures in
+    let tells = c.in_ok-expect-2.ensures in
     let next = tells.answer ∙ ap (λ t. byte_in 40 t c.expect.new.self.at) first.same in
-    record { answer = open_more _ _ _ c.if-stands-here.ensures (then_ok _ _ _ _ _ first.answer (then_ok _ _ _ _ _ next refl)); same = tells.same ∙ first.same }
+    record { answer = open_more _ _ _ c.if-stands_here.ensures (then_ok _ _ _ _ _ first.answer (then_ok _ _ _ _ _ next refl)); same = tells.same ∙ first.same }

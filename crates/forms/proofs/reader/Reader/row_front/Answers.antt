@@ -4,31 +4,31 @@ use Rattle.forms.specs.Rows.{line_asked, column_asked, due_in, front_in}
 use Rattle.forms.proofs.Told.{then_ok, then_err}
 use Rattle.forms.proofs.reader.Reader.row_front.Goals as goal
 
-pub returns-in-err-outer-head : goal.returns-in-err-outer-head
+pub returns-in_err-outer_head : goal.returns-in_err-outer_head
 unfolding front_in
-returns-in-err-outer-head c =
-    let p = err_from_is_err_and c.from-residual.result c.from-residual.ensures.1 in
-    let tells = c.in-err-outer-head.ensures in
+returns-in_err-outer_head c =
+    let p = err_from_is_err_and c.from_residual.result c.from_residual.ensures.1 in
+    let tells = c.in_err-outer_head.ensures in
     rw (p.1, p.2) (record { answer = then_err _ _ _ tells.answer; same = tells.same })
 
-pub returns-in-err-due-number : goal.returns-in-err-due-number
+pub returns-in_err-due_number : goal.returns-in_err-due_number
 unfolding front_in
-returns-in-err-due-number c =
-    let p = err_from_is_err_and c.from-residual-in-err-due-number.result c.from-residual-in-err-due-number.ensures.1 in
-    let first = c.in-ok-outer-head.ensures in
-    let tells = c.in-err-due-number.ensures in
-    let at = c.outer-head.new.self.at in
+returns-in_err-due_number c =
+    let p = err_from_is_err_and c.from_residual-in_err-due_number.result c.from_residual-in_err-due_number.ensures.1 in
+    let first = c.in_ok-outer_head.ensures in
+    let tells = c.in_err-due_number.ensures in
+    let at = c.outer_head.new.self.at in
     let line = tells.answer ∙ ap (λ t. due_in line_asked c.args.line c.place-bracket.result t at) first.same ∙ ap (λ b. due_in line_asked c.args.line b c.args.self.now.text.now at) c.place-bracket.ensures in
     rw (p.1, p.2) (record { answer = then_ok _ _ _ _ _ first.answer (then_err _ _ _ line); same = tells.same ∙ first.same })
 
 pub returns : goal.returns
 unfolding front_in
 returns c =
-    let first = c.in-ok-outer-head.ensures in
-    let second = c.in-ok-due-number.ensures in
-    let third = c.due-number-2.ensures in
-    let at = c.outer-head.new.self.at in
+    let first = c.in_ok-outer_head.ensures in
+    let second = c.in_ok-due_number.ensures in
+    let third = c.due_number-2.ensures in
+    let at = c.outer_head.new.self.at in
     let line = second.answer ∙ ap (λ t. due_in line_asked c.args.line c.place-bracket.result t at) first.same ∙ ap (λ b. due_in line_asked c.args.line b c.args.self.now.text.now at) c.place-bracket.ensures in
-    let next = c.due-number.new.self.at in
+    let next = c.due_number.new.self.at in
     let column = third.answer ∙ ap (λ t. due_in column_asked c.args.column c.place-bracket.result t next) (second.same ∙ first.same) ∙ ap (λ b. due_in column_asked c.args.column b c.args.self.now.text.now next) c.place-bracket.ensures in
     record { answer = then_ok _ _ _ _ _ first.answer (then_ok _ _ _ _ _ line column); same = third.same ∙ second.same ∙ first.same }

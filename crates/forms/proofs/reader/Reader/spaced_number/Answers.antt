@@ -4,17 +4,17 @@ use Rattle.forms.specs.Reads.{spaced_in, field_in}
 use Rattle.forms.proofs.Told.{then_ok, then_err}
 use Rattle.forms.proofs.reader.Reader.spaced_number.Goals as goal
 
-pub returns-in-err-expect : goal.returns-in-err-expect
+pub returns-in_err-expect : goal.returns-in_err-expect
 unfolding spaced_in
-returns-in-err-expect c =
-    let p = err_from_is_err_and c.from-residual.result c.from-residual.ensures.1 in
-    let tells = c.in-err-expect.ensures in
+returns-in_err-expect c =
+    let p = err_from_is_err_and c.from_residual.result c.from_residual.ensures.1 in
+    let tells = c.in_err-expect.ensures in
     rw (p.1, p.2) (record { answer = then_err _ _ _ tells.answer; same = tells.same })
 
 pub returns : goal.returns
 unfolding spaced_in
 returns c =
-    let tells = c.in-ok-expect.ensures in
+    let tells = c.in_ok-expect.ensures in
     let next = c.number.ensures.answer in
     record {
       answer = then_ok _ _ _ _ _ tells.answer (next ∙ ap (λ t. field_in c.args.allowed t c.expect.new.self.at) tells.same);

@@ -6,9 +6,9 @@ use Rattle.layers.proofs.scene.Scene.basket_point.Goals as goal
 pub returns-in-Some : goal.returns-in-Some
 returns-in-Some c =
     let s = c.args.self.now in
-    c.basket-in.ensures ∙ basket_taken_lem s.last (cards_of s) (cells_of s) c.args.b c.family-of-f.result c.in-Some.p c.family-of-f.ensures (sym c.family-point.ensures.value ∙ c.in-Some.is)
+    c.basket_in.ensures ∙ basket_taken_lem s.last (cards_of s) (cells_of s) c.args.b c.family_of-f.result c.in-Some.p c.family_of-f.ensures (sym c.family_point.ensures.value ∙ c.in-Some.is)
 
 pub returns-in-None : goal.returns-in-None
 returns-in-None c =
     let s = c.args.self.now in
-    basket_out s.last (cards_of s) (cells_of s) c.args.b c.family-of-f.result c.family-of-f.ensures (sym c.family-point.ensures.value ∙ c.in-None.is)
+    basket_out s.last (cards_of s) (cells_of s) c.args.b c.family_of-f.result c.family_of-f.ensures (sym c.family_point.ensures.value ∙ c.in-None.is)

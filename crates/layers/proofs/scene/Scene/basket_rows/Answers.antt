@@ -12,5 +12,5 @@ loop-i-init c = none_yet _ (2 ^ 76) 68
 pub loop-i-preserved : goal.loop-i-preserved
 loop-i-preserved c =
     let s = c.args.self.now in
-    let fits : SFits w128 c.basket-result.result = search rules in
-    simp to_z-of_z (one_placed (λ i. basket_result (cards_of s) (cells_of s) (i / 17) (i % 17)) (2 ^ 76) 68 c.loop-i.i c.loop-i.rows c.basket-result.result c.loop-i.invariant (omega arith) c.basket-result.ensures.value c.basket-result.ensures.size)
+    let fits : SFits w128 c.basket_result.result = search rules in
+    simp to_z-of_z (one_placed (λ i. basket_result (cards_of s) (cells_of s) (i / 17) (i % 17)) (2 ^ 76) 68 c.loop-i.i c.loop-i.rows c.basket_result.result c.loop-i.invariant (omega arith) c.basket_result.ensures.value c.basket_result.ensures.size)

@@ -8,7 +8,7 @@ use Rattle.layers.proofs.scene.Scene.chosen_basket.Goals as goal
 pub returns-then-b-self : goal.returns-then-b-self
 returns-then-b-self c =
     let s = c.args.self.now in
-    c.basket-point.ensures ∙ sym (up_to_is (length s.baskets.now) (basket_point s.last (cards_of s) (cells_of s)) c.args.b (omega arith))
+    c.basket_point.ensures ∙ sym (up_to_is (length s.baskets.now) (basket_point s.last (cards_of s) (cells_of s)) c.args.b (omega arith))
 
 pub returns-else-b-self : goal.returns-else-b-self
 returns-else-b-self c =

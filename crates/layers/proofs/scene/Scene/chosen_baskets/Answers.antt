@@ -8,7 +8,7 @@ pub loop-b-init : goal.loop-b-init
 loop-b-init c = none_chosen None (in_scene basket_choice c.args.self.now) 4
 
 pub loop-b-preserved : goal.loop-b-preserved
-loop-b-preserved c = one_chosen None (in_scene basket_choice c.args.self.now) 4 c.loop-b.b c.loop-b.list c.chosen-basket.result c.loop-b.invariant (omega arith) c.chosen-basket.ensures
+loop-b-preserved c = one_chosen None (in_scene basket_choice c.args.self.now) 4 c.loop-b.b c.loop-b.list c.chosen_basket.result c.loop-b.invariant (omega arith) c.chosen_basket.ensures
 
 pub returns : goal.returns
 returns c =

@@ -8,7 +8,7 @@ pub loop-f-init : goal.loop-f-init
 loop-f-init c = none_chosen None (in_scene family_choice c.args.self.now) 2
 
 pub loop-f-preserved : goal.loop-f-preserved
-loop-f-preserved c = one_chosen None (in_scene family_choice c.args.self.now) 2 c.loop-f.f c.loop-f.list c.chosen-family.result c.loop-f.invariant (omega arith) c.chosen-family.ensures
+loop-f-preserved c = one_chosen None (in_scene family_choice c.args.self.now) 2 c.loop-f.f c.loop-f.list c.chosen_family.result c.loop-f.invariant (omega arith) c.chosen_family.ensures
 
 pub returns : goal.returns
 returns c =

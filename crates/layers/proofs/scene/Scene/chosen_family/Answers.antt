@@ -8,7 +8,7 @@ use Rattle.layers.proofs.scene.Scene.chosen_family.Goals as goal
 pub returns-then-f-self : goal.returns-then-f-self
 returns-then-f-self c =
     let s = c.args.self.now in
-    c.family-point.ensures.value ∙ sym (up_to_is (length s.families.now) (family_point s.last (cards_of s) (cells_of s)) c.args.f (omega arith))
+    c.family_point.ensures.value ∙ sym (up_to_is (length s.families.now) (family_point s.last (cards_of s) (cells_of s)) c.args.f (omega arith))
 
 pub returns-else-f-self : goal.returns-else-f-self
 returns-else-f-self c =

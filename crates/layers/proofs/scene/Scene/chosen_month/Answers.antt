@@ -8,7 +8,7 @@ use Rattle.layers.proofs.scene.Scene.chosen_month.Goals as goal
 pub returns-then-m-self : goal.returns-then-m-self
 returns-then-m-self c =
     let s = c.args.self.now in
-    c.month-kept.ensures ∙ sym (up_to_is (length s.months.now) (month_kept s.last (cards_of s) (cells_of s)) c.args.m (omega arith))
+    c.month_kept.ensures ∙ sym (up_to_is (length s.months.now) (month_kept s.last (cards_of s) (cells_of s)) c.args.m (omega arith))
 
 pub returns-else-m-self : goal.returns-else-m-self
 returns-else-m-self c =

@@ -8,7 +8,7 @@ pub loop-m-init : goal.loop-m-init
 loop-m-init c = none_chosen None (in_scene month_choice c.args.self.now) 8
 
 pub loop-m-preserved : goal.loop-m-preserved
-loop-m-preserved c = one_chosen None (in_scene month_choice c.args.self.now) 8 c.loop-m.m c.loop-m.list c.chosen-month.result c.loop-m.invariant (omega arith) c.chosen-month.ensures
+loop-m-preserved c = one_chosen None (in_scene month_choice c.args.self.now) 8 c.loop-m.m c.loop-m.list c.chosen_month.result c.loop-m.invariant (omega arith) c.chosen_month.ensures
 
 pub returns : goal.returns
 returns c =

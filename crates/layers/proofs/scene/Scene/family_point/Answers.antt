@@ -10,7 +10,7 @@ pub returns : goal.returns
 unfolding family_point
 returns c =
     let s = c.args.self.now in
-    let fits : SFits w128 c.family-worst-result.result.0 = search rules in
-    let taken = simp to_z-of_z at c.point-if-below-0.ensures in
-    let is : c.point-if-below-0.result ≡ family_point s.last (cards_of s) (cells_of s) c.args.f = taken ∙ ap (λ (r : ℤ × ℕ). take_if_below0 r.0 r.1) c.family-worst-result.ensures.value in
+    let fits : SFits w128 c.family_worst-result.result.0 = search rules in
+    let taken = simp to_z-of_z at c.point_if_below_0.ensures in
+    let is : c.point_if_below_0.result ≡ family_point s.last (cards_of s) (cells_of s) c.args.f = taken ∙ ap (λ (r : ℤ × ℕ). take_if_below0 r.0 r.1) c.family_worst-result.ensures.value in
     record { value = is; on_grid = λ p e. point_on_grid s.last (cards_of s) (cells_of s) c.args.f p (sym is ∙ e) }

@@ -15,8 +15,8 @@ loop-b-init c = (refl, lit≤ tt)
 pub loop-b-preserved : goal.loop-b-preserved
 loop-b-preserved c =
     let s = c.args.self.now in
-    let more = total_next c.loop-b.b (in_family (cards_of s) c.args.f) (λ b. basket_part s c.args.f c.args.p b) c.basket-share-sum.result c.basket-share-sum.ensures.value in
-    (one_more _ _ _ _ c.loop-b.invariant.0 more (omega arith) (omega (arith, c.basket-share-sum.ensures.size)), omega (arith, ints))
+    let more = total_next c.loop-b.b (in_family (cards_of s) c.args.f) (λ b. basket_part s c.args.f c.args.p b) c.basket_share-sum.result c.basket_share-sum.ensures.value in
+    (one_more _ _ _ _ c.loop-b.invariant.0 more (omega arith) (omega (arith, c.basket_share-sum.ensures.size)), omega (arith, ints))
 
 pub returns : goal.returns
 returns c =

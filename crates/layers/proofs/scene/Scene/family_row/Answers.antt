@@ -13,8 +13,8 @@ loop-p-init c = none_yet _ (2 ^ 78) 17
 pub loop-p-preserved : goal.loop-p-preserved
 loop-p-preserved c =
     let s = c.args.self.now in
-    let fits : SFits w128 c.family-result.result = search rules in
-    simp to_z-of_z (one_placed (family_result s.last (cards_of s) (cells_of s) c.args.f) (2 ^ 78) 17 c.loop-p.p c.loop-p.row c.family-result.result c.loop-p.invariant (omega arith) c.family-result.ensures.value c.family-result.ensures.size)
+    let fits : SFits w128 c.family_result.result = search rules in
+    simp to_z-of_z (one_placed (family_result s.last (cards_of s) (cells_of s) c.args.f) (2 ^ 78) 17 c.loop-p.p c.loop-p.row c.family_result.result c.loop-p.invariant (omega arith) c.family_result.ensures.value c.family_result.ensures.size)
 
 pub returns : goal.returns
 returns c =

@@ -5,8 +5,8 @@ use Rattle.layers.proofs.scene.Scene.family_worst.Goals as goal
 pub returns : goal.returns
 returns c =
     let s = c.args.self.now in
-    let held = c.family-row-row.ensures in
+    let held = c.family_row-row.ensures in
     record {
-      value = row_found s.last (cards_of s) (cells_of s) c.args.f _ c.least-between.result held.so_far c.least-between.ensures.value;
-      size = c.least-between.ensures.size _ held.sized;
+      value = row_found s.last (cards_of s) (cells_of s) c.args.f _ c.least_between.result held.so_far c.least_between.ensures.value;
+      size = c.least_between.ensures.size _ held.sized;
     }

@@ -4,4 +4,4 @@ use Rattle.layers.proofs.scene.Scene.kept_with.Goals as goal
 
 pub returns : goal.returns
 unfolding kept_with
-returns c = cc (ap (λ r. r.1) c.rate-result.ensures.value, ap (λ r. r.1) c.twist-result.ensures.value)
+returns c = cc (ap (λ r. r.1) c.rate_result.ensures.value, ap (λ r. r.1) c.twist_result.ensures.value)

@@ -6,7 +6,7 @@ use Rattle.layers.proofs.scene.Scene.netted_basket_result.Goals as goal
 pub returns : goal.returns
 unfolding netted_basket_result
 returns c =
-    let column = c.netted-column.ensures in
-    let curves = c.over-months.ensures in
+    let column = c.netted_column.ensures in
+    let curves = c.over_months.ensures in
     let sum = added _ _ _ _ (2 ^ 75) (2 ^ 75) (lit≤ tt) (lit≤ tt) column.size curves.size (ap (λ r. r.0) column.value) curves.value in
-    record { value = sum.value; size = sum.size-is }
+    record { value = sum.value; size = sum.size_is }

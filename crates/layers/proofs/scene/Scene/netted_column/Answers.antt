@@ -7,9 +7,9 @@ use Rattle.layers.proofs.scene.Scene.netted_column.Goals as goal
 pub returns : goal.returns
 unfolding netted_column
 returns c =
-    let fits : SFits w128 c.over-months-first.result = search rules in
-    let fits-2 : SFits w128 c.over-months-second.result = search rules in
-    let fits-3 : SFits w128 c.over-months-third.result = search rules in
-    let found = simp to_z-of_z at c.least-of-three.ensures.value in
-    let sized = simp to_z-of_z at c.least-of-three.ensures.size in
-    record { value = cc found; size = sized _ c.over-months-first.ensures.size c.over-months-second.ensures.size c.over-months-third.ensures.size }
+    let fits : SFits w128 c.over_months-first.result = search rules in
+    let fits-2 : SFits w128 c.over_months-second.result = search rules in
+    let fits-3 : SFits w128 c.over_months-third.result = search rules in
+    let found = simp to_z-of_z at c.least_of_three.ensures.value in
+    let sized = simp to_z-of_z at c.least_of_three.ensures.size in
+    record { value = cc found; size = sized _ c.over_months-first.ensures.size c.over_months-second.ensures.size c.over_months-third.ensures.size }

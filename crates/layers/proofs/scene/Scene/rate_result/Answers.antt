@@ -10,7 +10,7 @@ unfolding rate_result
 returns c =
     let fits : SFits w128 c.cell.result = search rules in
     let fits-2 : SFits w128 c.cell-2.result = search rules in
-    let found = simp to_z-of_z at c.least-with-0.ensures in
+    let found = simp to_z-of_z at c.least_with_0.ensures in
     record {
       value = cc found;
       size = rw found (three_size (pos 0) c.cell.result c.cell-2.result (2 ^ 70) zero-le c.cell.ensures.size c.cell-2.ensures.size);

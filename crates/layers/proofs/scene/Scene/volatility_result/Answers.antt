@@ -10,6 +10,6 @@ returns c =
     let fits : SFits w128 c.cell.result = search rules in
     let fits-2 : SFits w128 c.cell-2.result = search rules in
     let fits-3 : SFits w128 c.cell-3.result = search rules in
-    let found = simp to_z-of_z at c.least-of-three.ensures.value in
-    let sized = simp to_z-of_z at c.least-of-three.ensures.size in
+    let found = simp to_z-of_z at c.least_of_three.ensures.value in
+    let sized = simp to_z-of_z at c.least_of_three.ensures.size in
     record { value = cc found; size = sized _ c.cell.ensures.size c.cell-2.ensures.size c.cell-3.ensures.size }

@@ -5,8 +5,8 @@ use Rattle.layers.proofs.scene.Scene.worst_within.Goals as goal
 pub returns : goal.returns
 returns c =
     let s = c.args.self.now in
-    let found = c.least-between.ensures in
+    let found = c.least_between.ensures in
     record {
-      value = worst_found s.last (cards_of s) (cells_of s) c.args.rows.now c.args.w c.args.b c.args.p c.first-within.result c.last-within.result c.least-between.result c.requires.point c.requires.fits.few_points c.requires.basket c.requires.held.so_far c.first-within.ensures c.last-within.ensures found.value;
+      value = worst_found s.last (cards_of s) (cells_of s) c.args.rows.now c.args.w c.args.b c.args.p c.first_within.result c.last_within.result c.least_between.result c.requires.point c.requires.fits.few_points c.requires.basket c.requires.held.so_far c.first_within.ensures c.last_within.ensures found.value;
       size = found.size _ c.requires.held.sized;
     }
