@@ -15,7 +15,7 @@ use Rattle.margin.proofs.SumLaws.{≤ℤ-trans, at_most}
 use Rattle.account.specs.declared.orders.Order.{Order}
 use Rattle.account.specs.declared.orders.Event.TheVariants.{Filled}
 use Rattle.account.specs.Orders.{signed, found}
-use Rattle.account.specs.Account.{State, book_of, no_worse, filled, cancelled, placed, new_order, net_fits}
+use Rattle.account.specs.Account.{State, book_of, no_worse, filled, cancelled, placed, new_order, book_net_fits}
 use Rattle.account.specs.Bounds.{dearest, LineInBounds}
 use Rattle.margin.proofs.Products.{scaled}
 use Rattle.account.proofs.Products.{times_add, OneSide}
@@ -136,7 +136,7 @@ module _ (s : State) (number quantity price : ℤ) (o : Order) (is : found numbe
       by false e = cost_stays (position (book_of s) l).cost (position (book_of after) l).cost (buys (book_of s) l +ℤ sells (book_of s) l) (buys (book_of after) l +ℤ sells (book_of after) l) (dearest * (10000 + get_or s.accepted l 0)) (ap (λ (p : Position). p.cost) (position_off s number quantity price o is low high fair l e)) (open_off e) bound.cost_bounded
 
 -- ---- a placed order
-module _ (s : State) (line_no quantity limit : ℤ) (fits : net_fits (book_of (placed s line_no quantity limit)) (named line_no) ≡ true) (few : get_or (placed s line_no quantity limit).accepted (named line_no) 0 ≤ 20000) where
+module _ (s : State) (line_no quantity limit : ℤ) (fits : book_net_fits (book_of (placed s line_no quantity limit)) (named line_no) ≡ true) (few : get_or (placed s line_no quantity limit).accepted (named line_no) 0 ≤ 20000) where
   abbrev with_it : State
   with_it = placed s line_no quantity limit
 

@@ -137,8 +137,24 @@ abbrev pub covered : State → Bool
 covered s = nat_le (margin_of s) s.collateral
 
 -- neither what a line may come to hold, nor what it may come to be short of, is above 10,000 contracts
-abbrev pub net_fits : Book → ℕ → Bool
-net_fits book l = int_le ((position book l).net +ℤ buys book l) (pos 10000) && int_le (sells book l -ℤ (position book l).net) (pos 10000)
+abbrev pub net_fits : State → ℕ → Bool
+net_fits s l = int_le ((position (book_of s) l).net +ℤ buys (book_of s) l) (pos 10000) && int_le (sells (book_of s) l -ℤ (position (book_of s) l).net) (pos 10000)
+
+abbrev pub place_checks : State → ℤ → ℤ → ℤ → List (Option Refusal)
+place_checks s line quantity limit =
+    let after = placed s line quantity limit in
+    unless (name_fits (length s.cards.lines) line) NoSuchLine
+    ∷ unless (quantity_fits (pos (unsigned_abs quantity))) BadQuantity
+    ∷ unless (price_fits limit) BadPrice
+    ∷ unless (nat_lt (length s.orders) 32) OrdersFull
+    ∷ unless (net_fits after (named line)) NetTooLarge
+    ∷ unless (nat_le (slice_index after.accepted (named line)) 20000) TooManyContracts
+    ∷ unless (covered after) NotCovered
+    ∷ []
+
+-- the same of a book: neither what a line may come to hold, nor what it may come to be short of, is above 10,000 contracts
+abbrev pub book_net_fits : Book → ℕ → Bool
+book_net_fits book l = int_le ((position book l).net +ℤ buys book l) (pos 10000) && int_le (sells book l -ℤ (position book l).net) (pos 10000)
 
 -- what refuses an order before its margin is looked at
 abbrev pub bound_checks : State → ℤ → ℤ → ℤ → List (Option Refusal)
@@ -148,12 +164,9 @@ bound_checks s line quantity limit =
     ∷ unless (quantity_fits (pos (unsigned_abs quantity))) BadQuantity
     ∷ unless (price_fits limit) BadPrice
     ∷ unless (nat_lt (length s.orders) 32) OrdersFull
-    ∷ unless (net_fits (book_of after) (named line)) NetTooLarge
+    ∷ unless (book_net_fits (book_of after) (named line)) NetTooLarge
     ∷ unless (nat_le (slice_index after.accepted (named line)) 20000) TooManyContracts
     ∷ []
-
-abbrev pub place_checks : State → ℤ → ℤ → ℤ → List (Option Refusal)
-place_checks s line quantity limit = bound_checks s line quantity limit ++ unless (covered (placed s line quantity limit)) NotCovered ∷ []
 
 -- a buy is filled at no more than its limit, a sell at no less
 unfoldable pub no_worse : Open → ℤ → Bool

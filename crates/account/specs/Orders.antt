@@ -1,5 +1,5 @@
 -- What happens to an order, and to the list of open orders.
-use Rattle.std.specs.Prelude.{ℕ, Bool, true, false, List, [], ◌∷◌, ℤ, pos, ◌-ℤ◌, neg_ℤ, Some, None, Option, ◌==◌, int_le, unsigned_abs}
+use Rattle.std.specs.Prelude.{ℕ, ◌≤◌, Bool, true, false, List, [], ◌∷◌, ℤ, pos, ◌-ℤ◌, neg_ℤ, Some, None, Option, ◌==◌, int_le, unsigned_abs}
 use Rattle.margin.specs.Book.{names}
 use Rattle.account.specs.declared.orders.Order.{Order}
 use Rattle.account.specs.declared.orders.OrderState.{OrderState}
@@ -12,6 +12,11 @@ unfoldable pub signed : ℤ → ℤ → ℤ
 signed left size = elim (int_le (pos 0) left) [ true ↦ size | false ↦ neg_ℤ size ]
 
 -- ---- one order
+-- a fill of no more contracts than an order may have
+abbrev pub SmallEvent : Event → Type 0
+SmallEvent (Filled size) = unsigned_abs size ≤ 10000
+SmallEvent Cancelled = Unit {0}
+
 -- what is left after an event
 unfoldable pub left_after : Event → ℤ → ℤ
 left_after (Filled size) left = left -ℤ signed left size

@@ -4,11 +4,11 @@ use mathlib.Core.Path.{fun_ext}
 use Rattle.std.proofs.lemmas.Bool.{ltb-true, and_parts}
 use Rattle.terms.specs.Halves.{points}
 use Rattle.terms.specs.declared.half.Half.{Half}
-use Rattle.banks.specs.Meanings.{most_reach, on_grid, priced_on_grid, capped, as_lines, exactly, bounded}
+use Rattle.banks.specs.Meanings.{most_reach, on_grid, gridded, capped, as_lines, exactly, bounded}
 use Rattle.banks.specs.Soundness.{cap_keeps}
 
 -- prices that agree on the grid
-pub grid_same : (half : Half) (lines : ℕ) (f g : ℕ → ℕ → ℕ → ℤ) → ((line point column : ℕ) → line < lines → point < points half → f line point column ≡ g line point column) → priced_on_grid half lines f ≡ priced_on_grid half lines g
+pub grid_same : (half : Half) (lines : ℕ) (f g : ℕ → ℕ → ℕ → ℤ) → ((line point column : ℕ) → line < lines → point < points half → f line point column ≡ g line point column) → gridded half lines f ≡ gridded half lines g
 grid_same half lines f g same = fun_ext λ line. fun_ext λ point. fun_ext λ column. go line point column (on_grid half lines line point column) refl
   where
     go : (line point column : ℕ) (b : Bool) → on_grid half lines line point column ≡ b → ◌≡◌ {A = ℤ} (elim b [ true ↦ f line point column | false ↦ pos 0 ]) (elim b [ true ↦ g line point column | false ↦ pos 0 ])

@@ -31,8 +31,8 @@ abbrev pub on_grid : Half → ℕ → ℕ → ℕ → ℕ → Bool
 on_grid half lines line point column = nat_lt line lines && (nat_lt point (points half) && nat_lt column columns)
 
 -- prices as given on the grid, and 0 outside it
-abbrev pub priced_on_grid : Half → ℕ → (ℕ → ℕ → ℕ → ℤ) → ℕ → ℕ → ℕ → ℤ
-priced_on_grid half lines prices line point column = elim (on_grid half lines line point column) [ true ↦ prices line point column | false ↦ pos 0 ]
+abbrev pub gridded : Half → ℕ → (ℕ → ℕ → ℕ → ℤ) → ℕ → ℕ → ℕ → ℤ
+gridded half lines prices line point column = elim (on_grid half lines line point column) [ true ↦ prices line point column | false ↦ pos 0 ]
 
 -- a size that passes a bound reads as 0
 abbrev pub capped : ℕ → ℤ → ℤ
@@ -44,7 +44,7 @@ as_lines n = max 1 (min most_lines n)
 
 -- a meaning as its parts say it
 abbrev pub exactly : Half → ℕ → ℕ → (ℕ → ℕ → ℕ → ℤ) → Meaning
-exactly half lines reach prices = record { half = half; lines = lines; reach = reach; price = priced_on_grid half lines prices }
+exactly half lines reach prices = record { half = half; lines = lines; reach = reach; price = gridded half lines prices }
 
 -- any parts made a bank's meaning: the count is read as a number of lines, the reach is cut at the bound, and a price beyond the reach reads as 0
 abbrev pub bounded : Half → ℕ → ℕ → (ℕ → ℕ → ℕ → ℤ) → Meaning

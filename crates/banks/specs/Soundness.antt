@@ -4,7 +4,7 @@ use Rattle.std.proofs.Common.{ap, ◌∙◌, zero-le, le_refl, le_trans, mul-le-
 use Rattle.std.proofs.Math.IntN.{*ℤ-zero}
 use Rattle.std.proofs.lemmas.Bool.{leb-true, le-leb}
 use Rattle.terms.specs.declared.half.Half.{Half}
-use Rattle.banks.specs.Meanings.{Meaning, Sound, on_grid, priced_on_grid, capped, bounded, as_lines, most_reach, most_lines}
+use Rattle.banks.specs.Meanings.{Meaning, Sound, on_grid, gridded, capped, bounded, as_lines, most_reach, most_lines}
 use Rattle.banks.specs.Layers.{side_by_side, pair_meaning, scale_meaning}
 
 -- ---- sizes of integers
@@ -22,10 +22,10 @@ size_product (negsuc a) (negsuc b) = refl
 -- ---- what the grid's edge and a cap do to prices
 
 module _ (half : Half) (lines : ℕ) (prices : ℕ → ℕ → ℕ → ℤ) where
-  pub grid_size : (most : ℕ) → ((line point column : ℕ) → unsigned_abs (prices line point column) ≤ most) → (line point column : ℕ) → unsigned_abs (priced_on_grid half lines prices line point column) ≤ most
+  pub grid_size : (most : ℕ) → ((line point column : ℕ) → unsigned_abs (prices line point column) ≤ most) → (line point column : ℕ) → unsigned_abs (gridded half lines prices line point column) ≤ most
   grid_size most each line point column = elim (on_grid half lines line point column) as (λ on. unsigned_abs (elim on [ true ↦ prices line point column | false ↦ pos 0 ]) ≤ most) [ true ↦ each line point column | false ↦ zero-le ]
 
-  pub grid_outside : (line point column : ℕ) → on_grid half lines line point column ≡ false → priced_on_grid half lines prices line point column ≡ pos 0
+  pub grid_outside : (line point column : ℕ) → on_grid half lines line point column ≡ false → gridded half lines prices line point column ≡ pos 0
   grid_outside line point column off = ap (λ on. elim on [ true ↦ prices line point column | false ↦ pos 0 ]) off
 
 pub cap_size : (most : ℕ) (price : ℤ) → unsigned_abs (capped most price) ≤ most

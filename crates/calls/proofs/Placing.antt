@@ -12,7 +12,7 @@ use Rattle.margin.proofs.SumLaws.{at_most}
 use Rattle.deck.specs.Judgements.{name_fits}
 use Rattle.account.specs.declared.orders.Order.{Order}
 use Rattle.account.specs.declared.orders.OrderState.TheVariants.{Untouched}
-use Rattle.account.specs.Account.{State, book_of, bound_checks, quantity_fits, price_fits, net_fits, covered, new_order, placed}
+use Rattle.account.specs.Account.{State, book_of, bound_checks, quantity_fits, price_fits, book_net_fits, covered, new_order, placed}
 use Rattle.calls.specs.States.{state_with}
 use Rattle.calls.specs.Accounts.{rest_of, first_of, book_with, trial_checks}
 use Rattle.account.specs.Bounds.{InBounds, summed}
@@ -92,10 +92,10 @@ module _ (s : State) (line quantity limit : ℤ) (inside : named line < length s
   trial_book : book_with s on_trial ≡ book_of (placed s line quantity limit)
   trial_book = ap (λ (os : List Open). of_orders os) (sym (map-append rest_of s.orders (new_order s line quantity limit ∷ [])))
 
-  pub trial_is : trial_checks s (book_with s on_trial) (named line) (nat_abs quantity) ≡ unless (net_fits (book_of (placed s line quantity limit)) (named line)) NetTooLarge ∷ unless (leb (get_or (placed s line quantity limit).accepted (named line) 0) 20000) TooManyContracts ∷ unless (covered (placed s line quantity limit)) NotCovered ∷ []
+  pub trial_is : trial_checks s (book_with s on_trial) (named line) (nat_abs quantity) ≡ unless (book_net_fits (book_of (placed s line quantity limit)) (named line)) NetTooLarge ∷ unless (leb (get_or (placed s line quantity limit).accepted (named line) 0) 20000) TooManyContracts ∷ unless (covered (placed s line quantity limit)) NotCovered ∷ []
   trial_is =
       ap (λ (book : Book). trial_checks s book (named line) (nat_abs quantity)) trial_book
-      ∙ ap (λ (n : ℕ). unless (net_fits (book_of (placed s line quantity limit)) (named line)) NetTooLarge ∷ unless (leb n 20000) TooManyContracts ∷ unless (covered (placed s line quantity limit)) NotCovered ∷ []) (sym (get_or-set_same s.accepted (named line) (get_or s.accepted (named line) 0 + nat_abs quantity) 0 inside))
+      ∙ ap (λ (n : ℕ). unless (book_net_fits (book_of (placed s line quantity limit)) (named line)) NetTooLarge ∷ unless (leb n 20000) TooManyContracts ∷ unless (covered (placed s line quantity limit)) NotCovered ∷ []) (sym (get_or-set_same s.accepted (named line) (get_or s.accepted (named line) 0 + nat_abs quantity) 0 inside))
 
 -- ---- an order placed
 pub placed_is : (s : State) (line : ℕ) (quantity limit : ℤ) (orders : List Order) (count next : ℕ) → orders ≡ s.orders ++ record { number = s.next; rest = record { line = line; left = quantity; limit = limit }; state = Untouched } ∷ [] → count ≡ get_or s.accepted line 0 + nat_abs quantity → next ≡ s.next + 1 → state_with s.bank s.cards s.positions orders (set s.accepted line count) next s.collateral ≡ placed s (pos line) quantity limit

@@ -4,7 +4,7 @@ use Rattle.terms.specs.declared.cards.Held.{Held}
 use Rattle.terms.specs.declared.refusal.Refusal.{Refusal}
 use Rattle.banks.specs.Meanings.{Meaning}
 use Rattle.margin.specs.Book.{Cards}
-use Rattle.margin.specs.Worlds.{World, world_of}
+use Rattle.margin.specs.Worlds.{World, listed_world}
 use Rattle.margin.specs.Layers.{family_loss, family_worst}
 use Rattle.cover.specs.declared.Blocked.{Blocked}
 use Rattle.account.specs.declared.call.Call.{Call}
@@ -36,8 +36,8 @@ made amount families costliest world = record { amount = amount; families = fami
 
 pub requirement_is : (s : State) (b : Blocked) (count : ℕ) (first second : Option FamilyWorst) → 1 ≤ length s.cards.families → length s.cards.families ≤ 2 → count ≡ length s.cards.families → BlockedFor s.bank s.cards (book_of s) b → first ≡ chosen b.losses b.worsts count 0 → second ≡ chosen b.losses b.worsts count 1 → requirement_of (record { amount = b.amount; families = first ∷ second ∷ []; costliest = b.costliest; world = b.world }) ≡ requirement s
 requirement_is s b count first second some few same h e f =
-    ap (λ (amount : ℕ). made amount (families_of (first ∷ second ∷ [])) b.costliest (world_of b.world)) h.amount_is
-    ∙ ap (λ (families : List (ℕ × ℕ)). made (requirement s).amount families b.costliest (world_of b.world)) families
+    ap (λ (amount : ℕ). made amount (families_of (first ∷ second ∷ [])) b.costliest (listed_world b.world)) h.amount_is
+    ∙ ap (λ (families : List (ℕ × ℕ)). made (requirement s).amount families b.costliest (listed_world b.world)) families
     ∙ ap₂ (made (requirement s).amount (requirement s).families) h.costliest_is h.world_is
   where
     families : families_of (first ∷ second ∷ []) ≡ (requirement s).families

@@ -8,8 +8,7 @@ use Rattle.account.specs.declared.orders.Order.{Order}
 use Rattle.account.specs.declared.orders.OrderState.{OrderState}
 use Rattle.account.specs.declared.orders.Event.{Event}
 use Rattle.account.specs.declared.orders.Event.TheVariants.{Filled, Cancelled}
-use Rattle.calls.specs.Accounts.{SmallEvent}
-use Rattle.account.specs.Orders.{signed, left_after, state_after, order_after}
+use Rattle.account.specs.Orders.{SmallEvent, signed, left_after, state_after, order_after}
 
 pub signed_buy : (left size : ℤ) → le_z (pos 0) left ≡ true → signed left size ≡ size
 unfolding signed

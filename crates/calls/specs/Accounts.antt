@@ -15,7 +15,7 @@ use Rattle.margin.specs.Book.{Book, names}
 use Rattle.margin.specs.LeastCover.{margin}
 use Rattle.cells.specs.Empty.{no_order}
 use Rattle.account.specs.Orders.{found}
-use Rattle.account.specs.Account.{State, Answer, last_of, net_fits, checks}
+use Rattle.account.specs.Account.{State, Answer, last_of, book_net_fits, checks}
 use Rattle.calls.specs.declared.accounts.Account.{Account}
 use Rattle.calls.specs.States.{state_with}
 
@@ -50,7 +50,7 @@ book_with s order = record { positions = s.positions; orders = map rest_of s.ord
 -- the checks of an order by the book that it would make: what its line may come to, what the line has accepted, the margin
 abbrev pub trial_checks : State → Book → ℕ → ℕ → List (Option Refusal)
 trial_checks s book line contracts =
-    unless (net_fits book line) NetTooLarge
+    unless (book_net_fits book line) NetTooLarge
     ∷ unless (nat_le (slice_index s.accepted line + contracts) 20000) TooManyContracts
     ∷ unless (nat_le (margin_with s book) s.collateral) NotCovered
     ∷ []
@@ -60,11 +60,6 @@ pub record SmallOrders (orders : List Open) : Type 0 where
   pub few : length orders ≤ 32
   pub lefts : (i : ℕ) → unsigned_abs (slice_index_or orders i no_order).left ≤ 10000
   pub limits : (i : ℕ) → unsigned_abs (slice_index_or orders i no_order).limit ≤ 10000000
-
--- a fill of no more contracts than an order may have
-abbrev pub SmallEvent : Event → Type 0
-SmallEvent (Filled size) = unsigned_abs size ≤ 10000
-SmallEvent Cancelled = Unit {0}
 
 -- what is read where there is no order
 abbrev pub none_open : Order

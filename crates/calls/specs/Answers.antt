@@ -1,7 +1,7 @@
 -- What the answers of the program stand for.
 use Rattle.std.specs.Prelude.{◌≡◌, ℕ, List, [], ◌∷◌, ◌++◌, map, Some, None, Ok, Err, Option, Result}
 use Rattle.terms.specs.declared.refusal.Refusal.{Refusal}
-use Rattle.margin.specs.Worlds.{world_of}
+use Rattle.margin.specs.Worlds.{listed_world}
 use Rattle.account.specs.Account as account
 use Rattle.calls.specs.declared.answer.FamilyWorst.{FamilyWorst}
 use Rattle.calls.specs.declared.answer.Requirement.{Requirement}
@@ -15,7 +15,7 @@ families_of (None ∷ fs) = families_of fs
 families_of (Some f ∷ fs) = (f.loss, f.point) ∷ families_of fs
 
 abbrev pub requirement_of : Requirement → account.Requirement
-requirement_of r = record { amount = r.amount; families = families_of r.families; costliest = r.costliest; world = world_of r.world }
+requirement_of r = record { amount = r.amount; families = families_of r.families; costliest = r.costliest; world = listed_world r.world }
 
 abbrev pub answer_of : Answer → account.Answer
 answer_of (Numbered n) = account.Numbered n

@@ -2,7 +2,7 @@
 use Rattle.std.specs.Prelude.{◌≡◌}
 use Rattle.banks.specs.Meanings.{Meaning}
 use Rattle.margin.specs.Book.{Cards, Book}
-use Rattle.margin.specs.Worlds.{world_of}
+use Rattle.margin.specs.Worlds.{listed_world}
 use Rattle.cover.specs.declared.Blocked.{Blocked}
 use Rattle.cover.specs.Margins.{amount_for, losses_for, worsts_for, costliest_for, world_for}
 
@@ -11,4 +11,4 @@ pub record BlockedFor (bank : Meaning) (cards : Cards) (book : Book) (b : Blocke
   pub losses_are : b.losses ≡ losses_for bank cards book
   pub worsts_are : b.worsts ≡ worsts_for bank cards book
   pub costliest_is : b.costliest ≡ costliest_for bank cards book
-  pub world_is : world_of b.world ≡ world_for bank cards book
+  pub world_is : listed_world b.world ≡ world_for bank cards book

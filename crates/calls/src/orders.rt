@@ -1,8 +1,8 @@
 // What happens to an order, and to the list of open orders.
 ghost use Rattle.std.specs.Prelude.{◌≡◌, suc, ◌<◌, ◌≤◌, not, ◌++◌, length, get_or, take, drop, vec_capacity, slice_index_or, unsigned_abs};
 ghost use Rattle.margin.specs.Book.{names};
-ghost use Rattle.account.specs.Orders.{signed, left_after, fill_state, state_after, order_after, is_gone as gone_of, kept as kept_of};
-ghost use Rattle.calls.specs.Accounts.{SmallEvent, PlaceOf, none_open};
+ghost use Rattle.account.specs.Orders.{SmallEvent, signed, left_after, fill_state, state_after, order_after, is_gone as gone_of, kept as kept_of};
+ghost use Rattle.calls.specs.Accounts.{PlaceOf, none_open};
 
 use crate::size::size;
 use account::orders::{Event, Order, OrderState};

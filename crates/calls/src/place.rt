@@ -4,7 +4,7 @@ ghost use Rattle.terms.specs.Checks.{unless};
 ghost use Rattle.terms.specs.declared.refusal.Refusal.TheVariants.{OrdersFull};
 ghost use Rattle.account.specs.declared.call.Call.TheVariants.{Place};
 ghost use Rattle.cells.specs.Books.{book_of as as_book};
-ghost use Rattle.account.specs.Account.{Numbered, quantity_fits, net_fits, bound_checks, checks, placed as placed_in, step};
+ghost use Rattle.account.specs.Account.{Numbered, quantity_fits, book_net_fits, bound_checks, checks, placed as placed_in, step};
 ghost use Rattle.calls.specs.Accounts.{state_of, first_of, told_as, margin_with, book_with, trial_checks, SmallOrders};
 
 use crate::accounts::Account;
@@ -55,7 +55,7 @@ fn quantity_fits(contracts: u64) -> bool
 // Whether neither what a line may come to hold, nor what it may come to be short of, is too large.
 fn net_fits(book: Book, line: usize) -> bool
     requires { line < length book.positions.now }
-    ensures { result ≡ net_fits (as_book book.entry) line }
+    ensures { result ≡ book_net_fits (as_book book.entry) line }
 {
     let net = book.positions[line].net;
     net + open_buys(book, line) <= MOST_NET && open_sells(book, line) - net <= MOST_NET

@@ -1,14 +1,14 @@
 -- A loop's step where a sum of signed numbers stays far from the ends of its type.
 use Rattle.std.proofs.Common.{◌≡◌, ℕ, ◌+◌, ◌*◌, ◌^◌, ◌≤◌, ℤ, ◌+ℤ◌, ◌-ℤ◌, nat_abs, ap, ◌∙◌, le_trans, add-mul, mul-le-mul, one-mul, arith, lit≤, w64, to_z, of_z}
 use Rattle.std.proofs.lemmas.Int.{ints}
-use Rattle.cells.specs.OrderParts.{most_of}
-use Rattle.cells.specs.declared.order_part.OrderPart.{OrderPart}
-use Rattle.cells.specs.declared.order_part.OrderPart.TheVariants.{Loss, Buy, Sell}
+use Rattle.cells.specs.Parts.{most_of}
+use Rattle.cells.specs.declared.part.Part.{Part}
+use Rattle.cells.specs.declared.part.Part.TheVariants.{Loss, Buy, Sell}
 
 pub one_more : (sum part now next : ℤ) → sum ≡ now → next ≡ now +ℤ part → nat_abs sum ≤ 2 ^ 61 → nat_abs part ≤ 2 ^ 61 → to_z w64 (of_z w64 (sum +ℤ to_z w64 (of_z w64 part))) ≡ next
 one_more sum part now next e f h k = omega (arith, ints)
 
-pub most_le : (what : OrderPart) → most_of what ≤ 28000000000000000
+pub most_le : (what : Part) → most_of what ≤ 28000000000000000
 most_le (Loss price column) = lit≤ tt
 most_le Buy = lit≤ tt
 most_le Sell = lit≤ tt

@@ -5,7 +5,7 @@ use Rattle.std.proofs.lemmas.Int.{ints}
 use Rattle.std.proofs.lemmas.List.{get_or_past}
 use Rattle.margin.specs.Book.{Cards, Book, named, line, month}
 use Rattle.margin.specs.Cells.{order_result}
-use Rattle.margin.specs.HandedOut.{loses_in, counted_at, counted_by}
+use Rattle.margin.specs.HandedOut.{order_loses_in, order_counted_at, counted_by}
 use Rattle.margin.specs.Worlds.{nowhere}
 use Rattle.margin.specs.declared.choice.Kept.{Kept}
 use Rattle.cells.specs.Countings.{counted_from}
@@ -26,11 +26,11 @@ module _ (price : ℕ → ℕ → ℕ → ℤ) where
   loses_nowhere : (p k : ℕ) → lt_z (order_result no_order (price 0 p k) k) (pos 0) ≡ false
   loses_nowhere p k = ap (λ (r : ℤ). lt_z r (pos 0)) (nothing_lost (price 0 p k) k)
 
-  in_no_column : (p : ℕ) (column : Option ℕ) → loses_in price no_order p column ≡ false
+  in_no_column : (p : ℕ) (column : Option ℕ) → order_loses_in price no_order p column ≡ false
   in_no_column p None = refl
   in_no_column p (Some k) = loses_nowhere p k
 
-  pub counted_nowhere : (point : Option ℕ) (kept : Option Kept) → counted_at price no_order point kept ≡ nowhere
+  pub counted_nowhere : (point : Option ℕ) (kept : Option Kept) → order_counted_at price no_order point kept ≡ nowhere
   counted_nowhere None kept = refl
   counted_nowhere (Some p) None = refl
   counted_nowhere (Some p) (Some columns) = λ i. record { volatility = loses_nowhere p columns.volatility i; rate = in_no_column p columns.rate i; twist = in_no_column p columns.twist i }

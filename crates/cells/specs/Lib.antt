@@ -2,5 +2,5 @@ pub mod Books
 pub mod Countings
 pub mod Empty
 pub mod Grids
-pub mod OrderParts
+pub mod Parts
 pub mod Shares

@@ -2,10 +2,10 @@
 ghost use Rattle.std.specs.Prelude.{◌≡◌, ◌≤◌, false, pos, Some, None, int_lt, slice_index_or, unsigned_abs};
 ghost use Rattle.margin.specs.Book.{named, line as line_card, month as month_card};
 ghost use Rattle.margin.specs.Cells.{order_result};
-ghost use Rattle.margin.specs.HandedOut.{loses as loses_at, loses_in, counted_at};
+ghost use Rattle.margin.specs.HandedOut.{order_loses, order_loses_in, order_counted_at};
 ghost use Rattle.margin.specs.Worlds.{nowhere};
 ghost use Rattle.deck.specs.Decks.{deck_cards};
-ghost use Rattle.layers.specs.Rows.{Lists};
+ghost use Rattle.layers.specs.Rows.{ListsAll};
 ghost use Rattle.cells.specs.Books.{book_of};
 ghost use Rattle.cells.specs.Countings.{counted_from};
 
@@ -73,7 +73,7 @@ impl<'a, B: Bank> Desk<'a, B> {
     fn loses(&self, order: Open, p: usize, k: usize) -> bool
         requires left { unsigned_abs order.left ≤ 10000 }
         requires limit { unsigned_abs order.limit ≤ 10000000 }
-        ensures { result ≡ loses_at (B.Bank.meaning self.now.bank.now).price order p k }
+        ensures { result ≡ order_loses (B.Bank.meaning self.now.bank.now).price order p k }
     {
         let price = self.price(order.line, p, k);
         is_loss(order, price, k)
@@ -83,7 +83,7 @@ impl<'a, B: Bank> Desk<'a, B> {
     fn loses_in(&self, order: Open, p: usize, column: Option<usize>) -> bool
         requires left { unsigned_abs order.left ≤ 10000 }
         requires limit { unsigned_abs order.limit ≤ 10000000 }
-        ensures { result ≡ loses_in (B.Bank.meaning self.now.bank.now).price order p column }
+        ensures { result ≡ order_loses_in (B.Bank.meaning self.now.bank.now).price order p column }
     {
         match column {
             Some(k) => self.loses(order, p, k),
@@ -95,7 +95,7 @@ impl<'a, B: Bank> Desk<'a, B> {
     fn counted_in(&self, order: Open, p: usize, kept: Kept) -> Counted
         requires left { unsigned_abs order.left ≤ 10000 }
         requires limit { unsigned_abs order.limit ≤ 10000000 }
-        ensures { result ≡ counted_at (B.Bank.meaning self.now.bank.now).price order (Some p) (Some kept) }
+        ensures { result ≡ order_counted_at (B.Bank.meaning self.now.bank.now).price order (Some p) (Some kept) }
     {
         Counted {
             volatility: self.loses(order, p, kept.volatility),
@@ -108,7 +108,7 @@ impl<'a, B: Bank> Desk<'a, B> {
     fn counted_at(&self, order: Open, point: Option<usize>, kept: Option<Kept>) -> Counted
         requires left { unsigned_abs order.left ≤ 10000 }
         requires limit { unsigned_abs order.limit ≤ 10000000 }
-        ensures { result ≡ counted_at (B.Bank.meaning self.now.bank.now).price order point kept }
+        ensures { result ≡ order_counted_at (B.Bank.meaning self.now.bank.now).price order point kept }
     {
         match point {
             None => NOWHERE,
@@ -139,7 +139,7 @@ impl<'a, B: Bank> Desk<'a, B> {
         points: &[Option<usize>],
         columns: &[Option<Kept>],
     ) -> [Counted; 32]
-        ensures { Lists nowhere (counted_from (B.Bank.meaning self.now.bank.now).price (deck_cards self.now.deck.now) (book_of self.now.book) points.now columns.now) result }
+        ensures { ListsAll nowhere (counted_from (B.Bank.meaning self.now.bank.now).price (deck_cards self.now.deck.now) (book_of self.now.book) points.now columns.now) result }
     {
         let mut list = [NOWHERE; 32];
         for i in 0..32 {

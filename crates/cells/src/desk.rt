@@ -1,9 +1,10 @@
 // A month's cells, from a bank's prices, an account's cards and its book.
 ghost use Rattle.std.specs.Prelude.{◌≡◌, ◌*◌, ◌^◌, ◌<◌, ◌≤◌, true, false, pos, vec_len, unsigned_abs};
-ghost use Rattle.margin.specs.Book.{in_month};
+ghost use Rattle.std.specs.Int.{int_min};
+ghost use Rattle.margin.specs.Book.{in_month, over_lines};
+ghost use Rattle.margin.specs.Cells.{line_cell};
 ghost use Rattle.cells.specs.Books.{book_of};
 ghost use Rattle.deck.specs.Decks.{deck_cards};
-ghost use Rattle.cells.specs.Shares.{line_share, month_share};
 ghost use Rattle.layers.specs.Rows.{Holds};
 ghost use Rattle.layers.specs.Tables.{at_place};
 
@@ -11,16 +12,15 @@ use crate::book::Book;
 use crate::lines::line_cell;
 use banks::bank::Bank;
 use deck::deck::Deck;
-use layers::month_cells::MonthCells;
 use layers::naming::names;
 
 // What cells are worked out from; the last point is that of the bank's grid.
 #[derive(Drop)]
-pub(crate) struct Desk<'a, B> {
-    pub(crate) bank: &'a B,
-    pub(crate) deck: &'a Deck,
-    pub(crate) book: Book<'a>,
-    pub(crate) last: usize,
+pub struct Desk<'a, B> {
+    pub bank: &'a B,
+    pub deck: &'a Deck,
+    pub book: Book<'a>,
+    pub last: usize,
 }
 
 // Whether a line belongs to a month.
@@ -42,7 +42,7 @@ impl<'a, B: Bank> Desk<'a, B> {
 
     // What a line adds to its month's cell.
     fn line(&self, line: usize, p: usize, k: usize) -> i64
-        ensures value { result ≡ line_share self.now.last (B.Bank.meaning self.now.bank.now).price (deck_cards self.now.deck.now) (book_of self.now.book) line p k }
+        ensures value { result ≡ line_cell self.now.last (B.Bank.meaning self.now.bank.now).price (deck_cards self.now.deck.now) (book_of self.now.book) (λ i r. int_min (pos 0) r) line p k }
         ensures size { unsigned_abs result ≤ 2 ^ 61 }
     {
         let price = self.price(line, p, k);
@@ -52,7 +52,7 @@ impl<'a, B: Bank> Desk<'a, B> {
     // What a line adds to the cell of a month, if it belongs to the month.
     fn share(&self, m: usize, line: usize, p: usize, k: usize) -> i128
         requires { line < vec_len self.now.deck.now.lines }
-        ensures value { result ≡ elim (in_month (deck_cards self.now.deck.now) m line) [ true ↦ line_share self.now.last (B.Bank.meaning self.now.bank.now).price (deck_cards self.now.deck.now) (book_of self.now.book) line p k | false ↦ pos 0 ] }
+        ensures value { result ≡ elim (in_month (deck_cards self.now.deck.now) m line) [ true ↦ line_cell self.now.last (B.Bank.meaning self.now.bank.now).price (deck_cards self.now.deck.now) (book_of self.now.book) (λ i r. int_min (pos 0) r) line p k | false ↦ pos 0 ] }
         ensures size { unsigned_abs result ≤ 2 ^ 61 }
     {
         if in_month(self.deck, m, line) {
@@ -64,7 +64,7 @@ impl<'a, B: Bank> Desk<'a, B> {
 
     // A month's cell at a point and in a column.
     fn month_cell(&self, m: usize, p: usize, k: usize) -> i128
-        ensures value { result ≡ month_share self.now.last (B.Bank.meaning self.now.bank.now).price (deck_cards self.now.deck.now) (book_of self.now.book) m p k }
+        ensures value { result ≡ over_lines (deck_cards self.now.deck.now) m (λ l. line_cell self.now.last (B.Bank.meaning self.now.bank.now).price (deck_cards self.now.deck.now) (book_of self.now.book) (λ i r. int_min (pos 0) r) l p k) }
         ensures size { unsigned_abs result ≤ 16 * 2 ^ 61 }
     {
         let mut sum: i128 = 0;
@@ -74,14 +74,14 @@ impl<'a, B: Bank> Desk<'a, B> {
         sum
     }
 
-    // The cells of every month.
-    pub(crate) fn table(&self) -> MonthCells
-        ensures { Holds (at_place (month_share self.now.last (B.Bank.meaning self.now.bank.now).price (deck_cards self.now.deck.now) (book_of self.now.book))) (2 ^ 70) 952 952 result.cells }
+    // The cells of every month: for each, 17 points of seven columns.
+    pub fn table(&self) -> [i128; 952]
+        ensures { Holds (at_place (λ m p k. over_lines (deck_cards self.now.deck.now) m (λ l. line_cell self.now.last (B.Bank.meaning self.now.bank.now).price (deck_cards self.now.deck.now) (book_of self.now.book) (λ i r. int_min (pos 0) r) l p k))) (2 ^ 70) 952 952 result }
     {
         let mut cells = [0; 952];
         for i in 0..952 {
             cells[i] = self.month_cell(i / 119, i % 119 / 7, i % 7);
         }
-        MonthCells { cells }
+        cells
     }
 }

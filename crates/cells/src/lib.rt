@@ -4,7 +4,7 @@ ghost use Rattle.std.specs.Prelude.{◌≡◌};
 ghost use Rattle.margin.specs.Cells.{cells as cells_of_book};
 ghost use Rattle.margin.specs.Worlds.{nowhere};
 ghost use Rattle.deck.specs.Decks.{deck_cards};
-ghost use Rattle.layers.specs.Rows.{Lists};
+ghost use Rattle.layers.specs.Rows.{ListsAll};
 ghost use Rattle.layers.specs.Tables.{table_cells};
 ghost use Rattle.cells.specs.Books.{book_of};
 ghost use Rattle.cells.specs.Countings.{counted_from};
@@ -13,11 +13,11 @@ ghost use Rattle.cells.specs.Grids.{last_of};
 pub mod book;
 mod charges;
 mod counting;
-mod desk;
+pub mod desk;
 mod lines;
 pub mod open;
-mod order_part;
 mod orders;
+mod part;
 mod results;
 
 use crate::book::Book;
@@ -31,7 +31,9 @@ use margin::choice::{Counted, Kept};
 pub fn month_cells<'a, B: Bank>(bank: &'a B, deck: &'a Deck, book: Book<'a>) -> MonthCells
     ensures { table_cells (last_of (B.Bank.meaning bank.now)) (deck_cards deck.now) result.cells ≡ cells_of_book (last_of (B.Bank.meaning bank.now)) (B.Bank.meaning bank.now).price (deck_cards deck.now) (book_of book.entry) }
 {
-    desk_for(bank, deck, book).table()
+    MonthCells {
+        cells: desk_for(bank, deck, book).table(),
+    }
 }
 
 // In which cells each open order of a book is counted in a world, by the baskets' points and the months' columns in it.
@@ -42,7 +44,7 @@ pub fn counted_orders<'a, B: Bank>(
     points: &[Option<usize>],
     columns: &[Option<Kept>],
 ) -> [Counted; 32]
-    ensures { Lists nowhere (counted_from (B.Bank.meaning bank.now).price (deck_cards deck.now) (book_of book.entry) points.now columns.now) result }
+    ensures { ListsAll nowhere (counted_from (B.Bank.meaning bank.now).price (deck_cards deck.now) (book_of book.entry) points.now columns.now) result }
 {
     desk_for(bank, deck, book).all_counted(points, columns)
 }

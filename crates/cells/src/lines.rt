@@ -9,8 +9,8 @@ ghost use Rattle.terms.specs.Cards.{future_fits};
 
 use crate::book::Book;
 use crate::charges::charge;
-use crate::order_part::OrderPart;
 use crate::orders::over_orders;
+use crate::part::Part;
 use crate::results::position_result;
 use deck::deck::Deck;
 use margin::book::Position;
@@ -45,7 +45,7 @@ fn long_reach(book: Book, line: usize) -> i64
     ensures size { unsigned_abs result ≤ 330000 }
 {
     let net = position(book, line).net;
-    let buys = over_orders(book, line, OrderPart::Buy);
+    let buys = over_orders(book, line, Part::Buy);
     reach(net, buys)
 }
 
@@ -55,7 +55,7 @@ fn short_reach(book: Book, line: usize) -> i64
     ensures size { unsigned_abs result ≤ 330000 }
 {
     let net = position(book, line).net;
-    let sells = over_orders(book, line, OrderPart::Sell);
+    let sells = over_orders(book, line, Part::Sell);
     reach(-net, sells)
 }
 
@@ -119,6 +119,6 @@ pub(crate) fn line_cell(
 {
     let held = position_result(position(book, line), price, column);
     let charges = charged(deck, book, last, line, point, column);
-    let orders = over_orders(book, line, OrderPart::Loss { price, column });
+    let orders = over_orders(book, line, Part::Loss { price, column });
     held - charges + orders
 }

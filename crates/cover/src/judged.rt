@@ -1,8 +1,10 @@
 // The margin of positions and orders as a caller gives them, where their numbers lie within what an account may have.
 ghost use Rattle.std.specs.Prelude.{◌≡◌, is_some, IfSome};
-ghost use Rattle.margin.specs.Worlds.{world_of};
+ghost use Rattle.margin.specs.LeastCover.{margin as margin_of, LeastCover};
+ghost use Rattle.margin.specs.Worlds.{listed_world};
 ghost use Rattle.deck.specs.Decks.{deck_cards};
-ghost use Rattle.cover.specs.Margins.{amount_for, losses_for, worsts_for, costliest_for, world_for, LeastCoverFor, WorstFor, LowestFor};
+ghost use Rattle.cells.specs.Grids.{last_of};
+ghost use Rattle.cover.specs.Margins.{losses_for, worsts_for, costliest_for, world_for, WorstFor, LowestFor};
 ghost use Rattle.cover.specs.Small.{small_position, small_order, small_book};
 
 use crate::{Blocked, margin};
@@ -57,14 +59,14 @@ pub fn margin_of<'a, B: Bank>(
     orders: &'a [Open],
 ) -> Option<Blocked>
     ensures answered { is_some result ≡ small_book positions.now orders.now }
-    ensures amount { IfSome result (λ b. b.amount ≡ amount_for (B.Bank.meaning bank.now) (deck_cards deck.now) (record { positions = positions.entry.now; orders = orders.now })) }
+    ensures amount { IfSome result (λ b. b.amount ≡ margin_of (last_of (B.Bank.meaning bank.now)) (B.Bank.meaning bank.now).price (deck_cards deck.now) (record { positions = positions.entry.now; orders = orders.now })) }
     ensures losses { IfSome result (λ b. b.losses ≡ losses_for (B.Bank.meaning bank.now) (deck_cards deck.now) (record { positions = positions.entry.now; orders = orders.now })) }
     ensures worsts { IfSome result (λ b. b.worsts ≡ worsts_for (B.Bank.meaning bank.now) (deck_cards deck.now) (record { positions = positions.entry.now; orders = orders.now })) }
     ensures costliest { IfSome result (λ b. b.costliest ≡ costliest_for (B.Bank.meaning bank.now) (deck_cards deck.now) (record { positions = positions.entry.now; orders = orders.now })) }
-    ensures world { IfSome result (λ b. world_of b.world ≡ world_for (B.Bank.meaning bank.now) (deck_cards deck.now) (record { positions = positions.entry.now; orders = orders.now })) }
-    ensures least_cover { LeastCoverFor (B.Bank.meaning bank.now) (deck_cards deck.now) (record { positions = positions.entry.now; orders = orders.now }) }
-    ensures worst { IfSome result (λ b. WorstFor (B.Bank.meaning bank.now) (deck_cards deck.now) (record { positions = positions.entry.now; orders = orders.now }) (world_of b.world)) }
-    ensures lowest { IfSome result (λ b. LowestFor (B.Bank.meaning bank.now) (deck_cards deck.now) (record { positions = positions.entry.now; orders = orders.now }) (world_of b.world)) }
+    ensures world { IfSome result (λ b. listed_world b.world ≡ world_for (B.Bank.meaning bank.now) (deck_cards deck.now) (record { positions = positions.entry.now; orders = orders.now })) }
+    ensures least_cover { LeastCover (last_of (B.Bank.meaning bank.now)) (B.Bank.meaning bank.now).price (deck_cards deck.now) (record { positions = positions.entry.now; orders = orders.now }) }
+    ensures worst { IfSome result (λ b. WorstFor (B.Bank.meaning bank.now) (deck_cards deck.now) (record { positions = positions.entry.now; orders = orders.now }) (listed_world b.world)) }
+    ensures lowest { IfSome result (λ b. LowestFor (B.Bank.meaning bank.now) (deck_cards deck.now) (record { positions = positions.entry.now; orders = orders.now }) (listed_world b.world)) }
 {
     if !is_small(positions, orders) {
         return None;

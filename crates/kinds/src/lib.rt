@@ -1,7 +1,8 @@
 // The kinds of form that fill a record of their own, each with its head, its inner forms and their fields.
-ghost use Rattle.std.specs.Prelude.{◌≡◌, refl};
-ghost use Rattle.kinds.specs.Filled.{rate_with, limit_with};
-ghost use Rattle.kinds.specs.Formats.{grid_format, family_format, basket_format, month_format, future_format, option_format, cash_format, held_format, order_format};
+ghost use Rattle.std.specs.Prelude.{◌≡◌, refl, [], ◌∷◌, pos, negsuc, codes};
+ghost use Rattle.forms.specs.declared.field.Allowed.TheVariants.{Any, Between, HalfSize};
+ghost use Rattle.kinds.specs.Formats.{grid_format};
+ghost use Rattle.kinds.specs.Filled.{no_line, family_with, basket_with, future_with, held_with, order_with, rate_with, limit_with};
 
 use forms::field::{Allowed, Field};
 use forms::kind::Kind;
@@ -59,6 +60,47 @@ fn limit(so_far: Limits, index: usize, number: i64) -> Limits
 pub struct GridForm;
 
 impl Kind for GridForm {
+    type Record = i64;
+
+    ghost head_of = { codes "grid" };
+
+    ghost fields_of = { record { head = codes "half"; count = 1; allowed = HalfSize } ∷ [] };
+
+    ghost lettered = { (refl, (refl, tt)) };
+
+    ghost empty = { pos 0 };
+
+    ghost filled = { λ _ _ _ n. n };
+
+    const HEAD: &'static [u8] = b"grid";
+
+    const FIELDS: &'static [Field] = &[Field {
+        head: b"half",
+        count: 1,
+        allowed: Allowed::HalfSize,
+    }];
+
+    fn first_head() -> &'static [u8] {
+        Self::HEAD
+    }
+
+    fn inner_forms() -> &'static [Field] {
+        Self::FIELDS
+    }
+
+    fn blank() -> i64 {
+        0
+    }
+
+    fn fill(_so_far: i64, _inner: usize, _index: usize, number: i64) -> i64 {
+        number
+    }
+}
+
+// The same form, with its half as one of the four that there are.
+pub struct HalfForm;
+
+impl Kind for HalfForm {
     type Record = Half;
 
     ghost head_of = { grid_format.head };
@@ -105,15 +147,15 @@ pub struct FamilyForm;
 impl Kind for FamilyForm {
     type Record = Family;
 
-    ghost head_of = { family_format.head };
+    ghost head_of = { codes "family" };
 
-    ghost fields_of = { family_format.fields };
+    ghost fields_of = { record { head = codes "rule"; count = 1; allowed = Between (pos 0) (pos 1) } ∷ record { head = codes "window"; count = 1; allowed = Between (pos 0) (pos 16) } ∷ [] };
 
     ghost lettered = { (refl, (refl, (refl, tt))) };
 
-    ghost empty = { family_format.empty };
+    ghost empty = { record { rule = pos 0; window = pos 0 } };
 
-    ghost filled = { family_format.fill };
+    ghost filled = { family_with };
 
     const HEAD: &'static [u8] = b"family";
 
@@ -161,15 +203,15 @@ pub struct BasketForm;
 impl Kind for BasketForm {
     type Record = Basket;
 
-    ghost head_of = { basket_format.head };
+    ghost head_of = { codes "basket" };
 
-    ghost fields_of = { basket_format.fields };
+    ghost fields_of = { record { head = codes "family"; count = 1; allowed = Any } ∷ record { head = codes "rule"; count = 1; allowed = Between (pos 0) (pos 1) } ∷ [] };
 
     ghost lettered = { (refl, (refl, (refl, tt))) };
 
-    ghost empty = { basket_format.empty };
+    ghost empty = { record { family = pos 0; rule = pos 0 } };
 
-    ghost filled = { basket_format.fill };
+    ghost filled = { basket_with };
 
     const HEAD: &'static [u8] = b"basket";
 
@@ -217,15 +259,15 @@ pub struct MonthForm;
 impl Kind for MonthForm {
     type Record = Month;
 
-    ghost head_of = { month_format.head };
+    ghost head_of = { codes "month" };
 
-    ghost fields_of = { month_format.fields };
+    ghost fields_of = { record { head = codes "basket"; count = 1; allowed = Any } ∷ [] };
 
     ghost lettered = { (refl, (refl, tt)) };
 
-    ghost empty = { month_format.empty };
+    ghost empty = { record { basket = pos 0 } };
 
-    ghost filled = { month_format.fill };
+    ghost filled = { λ _ _ _ n. record { basket = n } };
 
     const HEAD: &'static [u8] = b"month";
 
@@ -257,15 +299,15 @@ pub struct FutureForm;
 impl Kind for FutureForm {
     type Record = Line;
 
-    ghost head_of = { future_format.head };
+    ghost head_of = { codes "future" };
 
-    ghost fields_of = { future_format.fields };
+    ghost fields_of = { record { head = codes "month"; count = 1; allowed = Any } ∷ record { head = codes "price"; count = 1; allowed = Between (pos 0) (pos 10000000) } ∷ record { head = codes "spot"; count = 1; allowed = Between (pos 0) (pos 10000000) } ∷ record { head = codes "change"; count = 1; allowed = Between (pos 0) (pos 1000000) } ∷ record { head = codes "rates"; count = 3; allowed = Between (pos 1) (pos 10000) } ∷ record { head = codes "limits"; count = 2; allowed = Between (pos 0) (pos 10000) } ∷ [] };
 
     ghost lettered = { (refl, (refl, (refl, (refl, (refl, (refl, (refl, tt))))))) };
 
-    ghost empty = { future_format.empty };
+    ghost empty = { no_line };
 
-    ghost filled = { future_format.fill };
+    ghost filled = { future_with };
 
     const HEAD: &'static [u8] = b"future";
 
@@ -349,15 +391,15 @@ pub struct OptionForm;
 impl Kind for OptionForm {
     type Record = Line;
 
-    ghost head_of = { option_format.head };
+    ghost head_of = { codes "option" };
 
-    ghost fields_of = { option_format.fields };
+    ghost fields_of = { record { head = codes "month"; count = 1; allowed = Any } ∷ [] };
 
     ghost lettered = { (refl, (refl, tt)) };
 
-    ghost empty = { option_format.empty };
+    ghost empty = { no_line };
 
-    ghost filled = { option_format.fill };
+    ghost filled = { λ _ l _ n. record { month = n; price = l.price; spot = l.spot; change = l.change; rates = l.rates; limits = l.limits } };
 
     const HEAD: &'static [u8] = b"option";
 
@@ -392,15 +434,15 @@ pub struct CashForm;
 impl Kind for CashForm {
     type Record = i64;
 
-    ghost head_of = { cash_format.head };
+    ghost head_of = { codes "cash" };
 
-    ghost fields_of = { cash_format.fields };
+    ghost fields_of = { record { head = codes "amount"; count = 1; allowed = Between (pos 0) (pos 100000000000000) } ∷ [] };
 
     ghost lettered = { (refl, (refl, tt)) };
 
-    ghost empty = { cash_format.empty };
+    ghost empty = { pos 0 };
 
-    ghost filled = { cash_format.fill };
+    ghost filled = { λ _ _ _ n. n };
 
     const HEAD: &'static [u8] = b"cash";
 
@@ -432,15 +474,15 @@ pub struct HeldForm;
 impl Kind for HeldForm {
     type Record = Held;
 
-    ghost head_of = { held_format.head };
+    ghost head_of = { codes "held" };
 
-    ghost fields_of = { held_format.fields };
+    ghost fields_of = { record { head = codes "line"; count = 1; allowed = Any } ∷ record { head = codes "net"; count = 1; allowed = Between (negsuc 9999) (pos 10000) } ∷ record { head = codes "price"; count = 1; allowed = Between (pos 0) (pos 10000000) } ∷ [] };
 
     ghost lettered = { (refl, (refl, (refl, (refl, tt)))) };
 
-    ghost empty = { held_format.empty };
+    ghost empty = { record { line = pos 0; net = pos 0; price = pos 0 } };
 
-    ghost filled = { held_format.fill };
+    ghost filled = { held_with };
 
     const HEAD: &'static [u8] = b"held";
 
@@ -509,15 +551,15 @@ pub struct OrderForm;
 impl Kind for OrderForm {
     type Record = Order;
 
-    ghost head_of = { order_format.head };
+    ghost head_of = { codes "order" };
 
-    ghost fields_of = { order_format.fields };
+    ghost fields_of = { record { head = codes "line"; count = 1; allowed = Any } ∷ record { head = codes "net"; count = 1; allowed = Any } ∷ record { head = codes "price"; count = 1; allowed = Any } ∷ [] };
 
     ghost lettered = { (refl, (refl, (refl, (refl, tt)))) };
 
-    ghost empty = { order_format.empty };
+    ghost empty = { record { line = pos 0; net = pos 0; price = pos 0 } };
 
-    ghost filled = { order_format.fill };
+    ghost filled = { λ inner o _ n. order_with inner o n };
 
     const HEAD: &'static [u8] = b"order";
 

@@ -8,7 +8,7 @@ use Rattle.margin.specs.Book.{Cards}
 use Rattle.margin.specs.Cells.{gridded}
 use Rattle.layers.specs.Rows.{Holds}
 use Rattle.layers.specs.Scenes.{cards_of, cells_of}
-use Rattle.layers.specs.Tables.{last_point, cell_place, at_place, table_cells}
+use Rattle.layers.specs.Tables.{last_point, place_of, at_place, table_cells}
 use Rattle.layers.specs.declared.scene.Scene.{Scene}
 
 pub few_points : (half : Half) → last_point half ≤ 16
@@ -43,18 +43,18 @@ seen {s} {last} {cards} {table} v F =
     ∙ ap (λ l. F l cards (table_cells l cards table)) v.last_is
 
 -- a cell's place leads back to the cell
-place_back : (m p k : ℕ) → p ≤ 16 → k < 7 → (cell_place m p k / 119 ≡ m) × ((cell_place m p k % 119) / 7 ≡ p) × (cell_place m p k % 7 ≡ k)
+place_back : (m p k : ℕ) → p ≤ 16 → k < 7 → (place_of m p k / 119 ≡ m) × ((place_of m p k % 119) / 7 ≡ p) × (place_of m p k % 7 ≡ k)
 place_back m p k hp hk = omega arith
 
 -- a list that holds cells at their places gives these cells
 pub held_cells : (last : ℕ) (cards : Cards) (cell : ℕ → ℕ → ℕ → ℤ) (size : ℕ) (table : List ℤ) → last ≤ 16 → length cards.months ≤ 8 → Holds (at_place cell) size 952 952 table → table_cells last cards table ≡ gridded last (length cards.months) cell
 held_cells last cards cell size table grid few held = same_grid last (length cards.months) _ _ at
   where
-    at : (m p k : ℕ) → m < length cards.months → p ≤ last → k < 7 → get_or table (cell_place m p k) (pos 0) ≡ cell m p k
+    at : (m p k : ℕ) → m < length cards.months → p ≤ last → k < 7 → get_or table (place_of m p k) (pos 0) ≡ cell m p k
     at m p k hm hp hk =
         let short : p ≤ 16 = omega arith in
         let back = place_back m p k short hk in
-        held.so_far (cell_place m p k) (omega arith)
-        ∙ ap (λ n. cell n ((cell_place m p k % 119) / 7) (cell_place m p k % 7)) back.0
-        ∙ ap (λ n. cell m n (cell_place m p k % 7)) back.1
+        held.so_far (place_of m p k) (omega arith)
+        ∙ ap (λ n. cell n ((place_of m p k % 119) / 7) (place_of m p k % 7)) back.0
+        ∙ ap (λ n. cell m n (place_of m p k % 7)) back.1
         ∙ ap (λ n. cell m p n) back.2

@@ -1,5 +1,5 @@
 pub mod Families
-pub mod MonthParts
+pub mod Parts
 pub mod Rows
 pub mod Tables
 pub mod Scenes

@@ -10,12 +10,12 @@ abbrev pub last_point : Half → ℕ
 last_point half = 2 * half_size half
 
 -- where a cell stands in the list, and the cell that stands at a place
-abbrev pub cell_place : ℕ → ℕ → ℕ → ℕ
-cell_place m point column = (m * 17 + point) * 7 + column
+abbrev pub place_of : ℕ → ℕ → ℕ → ℕ
+place_of m point column = (m * 17 + point) * 7 + column
 
 abbrev pub at_place : (ℕ → ℕ → ℕ → ℤ) → ℕ → ℤ
 at_place cells i = cells (i / 119) ((i % 119) / 7) (i % 7)
 
 -- the cells of a list, and 0 outside the grid
 abbrev pub table_cells : ℕ → Cards → List ℤ → ℕ → ℕ → ℕ → ℤ
-table_cells last cards table = gridded last (length cards.months) (λ m point column. slice_index_or table (cell_place m point column) (pos 0))
+table_cells last cards table = gridded last (length cards.months) (λ m point column. slice_index_or table (place_of m point column) (pos 0))

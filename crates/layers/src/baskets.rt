@@ -2,11 +2,11 @@
 ghost use Rattle.std.specs.Prelude.{◌≡◌, ◌^◌, ◌<◌, ◌≤◌, true, false, length, pos, unsigned_abs};
 ghost use Rattle.margin.specs.Book.{in_basket, netted_basket, over_months};
 ghost use Rattle.margin.specs.Layers.{netted_column, netted_basket_result, half_basket_result, basket_result};
-ghost use Rattle.layers.specs.MonthParts.{month_part};
+ghost use Rattle.layers.specs.Parts.{part_of};
 ghost use Rattle.layers.specs.Scenes.{Fits, cards_of, cells_of};
 
-use crate::month_part::MonthPart;
-use crate::naming::names;
+pub use crate::naming::names;
+use crate::part::Part;
 use crate::pick::{least_of_three, lesser_of_0};
 use crate::scene::Scene;
 
@@ -19,23 +19,23 @@ impl<'a> Scene<'a> {
     }
 
     // What a month gives to a sum.
-    fn part(&self, part: MonthPart, m: usize, p: usize) -> i128
+    fn part(&self, part: Part, m: usize, p: usize) -> i128
         requires { Fits self.now }
-        ensures value { result ≡ month_part part (cells_of self.now) m p }
+        ensures value { result ≡ part_of part (cells_of self.now) m p }
         ensures size { unsigned_abs result ≤ 2 ^ 72 }
     {
         match part {
-            MonthPart::Column(k) => self.cell(m, p, k),
-            MonthPart::Curves => self.curve_result(m, p),
-            MonthPart::Losses => lesser_of_0(self.month_result(m, p)),
+            Part::Column(k) => self.cell(m, p, k),
+            Part::Curves => self.curve_result(m, p),
+            Part::Losses => lesser_of_0(self.month_result(m, p)),
         }
     }
 
     // The same, and 0 where the month is not one of the basket's.
-    fn share(&self, b: usize, part: MonthPart, m: usize, p: usize) -> i128
+    fn share(&self, b: usize, part: Part, m: usize, p: usize) -> i128
         requires fits { Fits self.now }
         requires month { m < length self.now.months.now }
-        ensures value { result ≡ elim (in_basket (cards_of self.now) b m) [ true ↦ month_part part (cells_of self.now) m p | false ↦ pos 0 ] }
+        ensures value { result ≡ elim (in_basket (cards_of self.now) b m) [ true ↦ part_of part (cells_of self.now) m p | false ↦ pos 0 ] }
         ensures size { unsigned_abs result ≤ 2 ^ 72 }
     {
         if self.in_basket(b, m) {
@@ -46,9 +46,9 @@ impl<'a> Scene<'a> {
     }
 
     // A sum over the months of a basket.
-    pub(crate) fn over_months(&self, b: usize, part: MonthPart, p: usize) -> i128
+    pub fn over_months(&self, b: usize, part: Part, p: usize) -> i128
         requires { Fits self.now }
-        ensures value { result ≡ over_months (cards_of self.now) b (λ m. month_part part (cells_of self.now) m p) }
+        ensures value { result ≡ over_months (cards_of self.now) b (λ m. part_of part (cells_of self.now) m p) }
         ensures size { unsigned_abs result ≤ 2 ^ 75 }
     {
         let mut sum = 0;
@@ -59,14 +59,14 @@ impl<'a> Scene<'a> {
     }
 
     // The least of a netted basket's volatility columns, each added up over its months, with the lowest column that has it.
-    pub(crate) fn netted_column(&self, b: usize, p: usize) -> (i128, usize)
+    pub fn netted_column(&self, b: usize, p: usize) -> (i128, usize)
         requires { Fits self.now }
         ensures value { result ≡ netted_column (cards_of self.now) (cells_of self.now) b p }
         ensures size { unsigned_abs result.0 ≤ 2 ^ 75 }
     {
-        let first = self.over_months(b, MonthPart::Column(0), p);
-        let second = self.over_months(b, MonthPart::Column(1), p);
-        let third = self.over_months(b, MonthPart::Column(2), p);
+        let first = self.over_months(b, Part::Column(0), p);
+        let second = self.over_months(b, Part::Column(1), p);
+        let third = self.over_months(b, Part::Column(2), p);
         least_of_three(first, second, third)
     }
 
@@ -75,7 +75,7 @@ impl<'a> Scene<'a> {
         ensures value { result ≡ netted_basket_result (cards_of self.now) (cells_of self.now) b p }
         ensures size { unsigned_abs result ≤ 2 ^ 76 }
     {
-        self.netted_column(b, p).0 + self.over_months(b, MonthPart::Curves, p)
+        self.netted_column(b, p).0 + self.over_months(b, Part::Curves, p)
     }
 
     fn half_basket_result(&self, b: usize, p: usize) -> i128
@@ -83,10 +83,10 @@ impl<'a> Scene<'a> {
         ensures value { result ≡ half_basket_result (cards_of self.now) (cells_of self.now) b p }
         ensures size { unsigned_abs result ≤ 2 ^ 75 }
     {
-        self.over_months(b, MonthPart::Losses, p)
+        self.over_months(b, Part::Losses, p)
     }
 
-    pub(crate) fn is_netted_basket(&self, b: usize) -> bool
+    pub fn is_netted_basket(&self, b: usize) -> bool
         ensures { result ≡ netted_basket (cards_of self.now) b }
     {
         if b < self.baskets.len() {
@@ -96,7 +96,7 @@ impl<'a> Scene<'a> {
         }
     }
 
-    pub(crate) fn basket_result(&self, b: usize, p: usize) -> i128
+    pub fn basket_result(&self, b: usize, p: usize) -> i128
         requires { Fits self.now }
         ensures value { result ≡ basket_result (cards_of self.now) (cells_of self.now) b p }
         ensures size { unsigned_abs result ≤ 2 ^ 76 }

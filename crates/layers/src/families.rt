@@ -2,9 +2,10 @@
 ghost use Rattle.std.specs.Prelude.{◌≡◌, ◌^◌, ◌<◌, ◌≤◌, true, false, length, pos, unsigned_abs};
 ghost use Rattle.margin.specs.Book.{in_family, netted_family, window_of};
 ghost use Rattle.margin.specs.Layers.{window_start, window_end, worst_within, family_result};
-ghost use Rattle.layers.specs.Scenes.{Fits, HoldsBaskets, in_scene, cards_of, basket_part};
+ghost use Rattle.layers.specs.Scenes.{Fits, HoldsBaskets, cards_of, cells_of, basket_part};
 
-use crate::naming::{names, number};
+use crate::naming::names;
+pub use crate::naming::number;
 use crate::pick::{least_between, lesser_of_0};
 use crate::scene::Scene;
 
@@ -32,7 +33,7 @@ impl<'a> Scene<'a> {
         names(self.baskets[b].family, f)
     }
 
-    pub(crate) fn is_netted_family(&self, f: usize) -> bool
+    pub fn is_netted_family(&self, f: usize) -> bool
         ensures { result ≡ netted_family (cards_of self.now) f }
     {
         if f < self.families.len() {
@@ -43,7 +44,7 @@ impl<'a> Scene<'a> {
     }
 
     // How many points a basket of the family may lie from the family's point.
-    pub(crate) fn window(&self, f: usize) -> usize
+    pub fn window(&self, f: usize) -> usize
         ensures { result ≡ window_of (cards_of self.now) f }
     {
         if f < self.families.len() {
@@ -54,12 +55,12 @@ impl<'a> Scene<'a> {
     }
 
     // The worst of a basket within w points of p, with its first point.
-    pub(crate) fn worst_within(&self, rows: &[i128], w: usize, b: usize, p: usize) -> (i128, usize)
+    pub fn worst_within(&self, rows: &[i128], w: usize, b: usize, p: usize) -> (i128, usize)
         requires fits { Fits self.now }
         requires held { HoldsBaskets self.now rows.now }
         requires basket { b < 4 }
         requires point { p ≤ self.now.last }
-        ensures value { result ≡ in_scene worst_within self.now w b p }
+        ensures value { result ≡ worst_within self.now.last (cards_of self.now) (cells_of self.now) w b p }
         ensures size { unsigned_abs result.0 ≤ 2 ^ 76 }
     {
         least_between(
@@ -102,11 +103,11 @@ impl<'a> Scene<'a> {
         }
     }
 
-    pub(crate) fn family_result(&self, rows: &[i128], f: usize, p: usize) -> i128
+    pub fn family_result(&self, rows: &[i128], f: usize, p: usize) -> i128
         requires fits { Fits self.now }
         requires held { HoldsBaskets self.now rows.now }
         requires point { p ≤ self.now.last }
-        ensures value { result ≡ in_scene family_result self.now f p }
+        ensures value { result ≡ family_result self.now.last (cards_of self.now) (cells_of self.now) f p }
         ensures size { unsigned_abs result ≤ 2 ^ 78 }
     {
         let mut sum = 0;

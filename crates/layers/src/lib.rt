@@ -1,13 +1,13 @@
 // The layers from the months' cells to the margin and the world handed out, worked out as they are defined.
-mod amounts;
-mod baskets;
-mod families;
+pub mod amounts;
+pub mod baskets;
+pub mod families;
 pub mod month_cells;
-mod month_part;
-mod months;
+pub mod months;
 pub mod naming;
 pub mod outcome;
-mod pick;
-mod rows;
-mod scene;
-mod world;
+pub mod part;
+pub mod pick;
+pub mod rows;
+pub mod scene;
+pub mod world;

@@ -8,7 +8,7 @@ use crate::scene::Scene;
 
 impl<'a> Scene<'a> {
     // The least of the volatility columns, with the lowest column that has it.
-    pub(crate) fn volatility_result(&self, m: usize, p: usize) -> (i128, usize)
+    pub fn volatility_result(&self, m: usize, p: usize) -> (i128, usize)
         requires { Fits self.now }
         ensures value { result ≡ volatility_result (cells_of self.now) m p }
         ensures size { unsigned_abs result.0 ≤ 2 ^ 70 }
@@ -17,7 +17,7 @@ impl<'a> Scene<'a> {
     }
 
     // The least of 0 and the two rate columns; its place is 0 where neither is taken.
-    pub(crate) fn rate_result(&self, m: usize, p: usize) -> (i128, usize)
+    pub fn rate_result(&self, m: usize, p: usize) -> (i128, usize)
         requires { Fits self.now }
         ensures value { result ≡ rate_result (cells_of self.now) m p }
         ensures size { unsigned_abs result.0 ≤ 2 ^ 70 }
@@ -27,7 +27,7 @@ impl<'a> Scene<'a> {
     }
 
     // The least of 0 and the two twist columns.
-    pub(crate) fn twist_result(&self, m: usize, p: usize) -> (i128, usize)
+    pub fn twist_result(&self, m: usize, p: usize) -> (i128, usize)
         requires { Fits self.now }
         ensures value { result ≡ twist_result (cells_of self.now) m p }
         ensures size { unsigned_abs result.0 ≤ 2 ^ 70 }
@@ -36,7 +36,7 @@ impl<'a> Scene<'a> {
         least_with_0(self.cell(m, p, 5), self.cell(m, p, 6))
     }
 
-    pub(crate) fn curve_result(&self, m: usize, p: usize) -> i128
+    pub fn curve_result(&self, m: usize, p: usize) -> i128
         requires { Fits self.now }
         ensures value { result ≡ curve_result (cells_of self.now) m p }
         ensures size { unsigned_abs result ≤ 2 ^ 71 }
@@ -44,7 +44,7 @@ impl<'a> Scene<'a> {
         self.rate_result(m, p).0 + self.twist_result(m, p).0
     }
 
-    pub(crate) fn month_result(&self, m: usize, p: usize) -> i128
+    pub fn month_result(&self, m: usize, p: usize) -> i128
         requires { Fits self.now }
         ensures value { result ≡ month_result (cells_of self.now) m p }
         ensures size { unsigned_abs result ≤ 2 ^ 72 }

@@ -6,8 +6,8 @@ ghost use Rattle.margin.specs.Layers.{margin_of, costliest as costliest_of};
 ghost use Rattle.deck.specs.Decks.{deck_cards};
 ghost use Rattle.layers.specs.Families.{each_worst, each_loss};
 ghost use Rattle.layers.specs.Outcomes.{on_cells};
-ghost use Rattle.layers.specs.Rows.{Lists};
-ghost use Rattle.layers.specs.Scenes.{Fits, NamesBaskets, cards_of};
+ghost use Rattle.layers.specs.Rows.{ListsAll};
+ghost use Rattle.layers.specs.Scenes.{Fits, NamesBaskets, in_scene, cards_of};
 ghost use Rattle.layers.specs.Tables.{last_point};
 
 use crate::month_cells::MonthCells;
@@ -35,22 +35,38 @@ pub fn worked_out<'a>(deck: &'a Deck, cells: &'a MonthCells, half: Half) -> Outc
     ensures losses { result.losses ≡ on_cells each_loss half deck.now cells.now }
     ensures worsts { result.worsts ≡ on_cells each_worst half deck.now cells.now }
     ensures costliest { result.costliest ≡ on_cells costliest_of half deck.now cells.now }
-    ensures families { Lists None (on_cells family_choice half deck.now cells.now) result.families }
-    ensures baskets { Lists None (on_cells basket_choice half deck.now cells.now) result.baskets }
-    ensures months { Lists None (on_cells month_choice half deck.now cells.now) result.months }
+    ensures families { ListsAll None (on_cells family_choice half deck.now cells.now) result.families }
+    ensures baskets { ListsAll None (on_cells basket_choice half deck.now cells.now) result.baskets }
+    ensures months { ListsAll None (on_cells month_choice half deck.now cells.now) result.months }
 {
-    let scene = view(deck, cells, half);
-    let rows = scene.basket_rows();
-    let worsts = scene.worsts(&rows);
-    let losses = scene.losses(&worsts);
-    Outcome {
-        amount: scene.margin(&losses),
-        losses,
-        worsts,
-        costliest: scene.costliest(&losses),
-        families: scene.chosen_families(&rows),
-        baskets: scene.chosen_baskets(&rows),
-        months: scene.chosen_months(&rows),
+    view(deck, cells, half).outcome()
+}
+
+impl<'a> Scene<'a> {
+    // What the layers make of a scene.
+    pub fn outcome(&self) -> Outcome
+        requires fits { Fits self.now }
+        requires named { NamesBaskets self.now }
+        ensures amount { result.amount ≡ in_scene margin_of self.now }
+        ensures losses { result.losses ≡ in_scene each_loss self.now }
+        ensures worsts { result.worsts ≡ in_scene each_worst self.now }
+        ensures costliest { result.costliest ≡ in_scene costliest_of self.now }
+        ensures families { ListsAll None (in_scene family_choice self.now) result.families }
+        ensures baskets { ListsAll None (in_scene basket_choice self.now) result.baskets }
+        ensures months { ListsAll None (in_scene month_choice self.now) result.months }
+    {
+        let rows = self.basket_rows();
+        let worsts = self.worsts(&rows);
+        let losses = self.losses(&worsts);
+        Outcome {
+            amount: self.margin_of_losses(&losses),
+            losses,
+            worsts,
+            costliest: self.costliest_of_losses(&losses),
+            families: self.chosen_families(&rows),
+            baskets: self.chosen_baskets(&rows),
+            months: self.chosen_months(&rows),
+        }
     }
 }
 

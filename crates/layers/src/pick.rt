@@ -6,7 +6,7 @@ ghost use Rattle.margin.specs.Sums.{least as least_of, least3};
 use order::least;
 
 // The least of three, and the first of the places 0, 1, 2 where it stands.
-pub(crate) fn least_of_three(a: i128, b: i128, c: i128) -> (i128, usize)
+pub fn least_of_three(a: i128, b: i128, c: i128) -> (i128, usize)
     ensures value { result ≡ least3 a b c }
     ensures size { (n : ℕ) → unsigned_abs a ≤ n → unsigned_abs b ≤ n → unsigned_abs c ≤ n → unsigned_abs result.0 ≤ n }
     ensures place { result.1 ≤ 2 }
@@ -25,12 +25,7 @@ pub(crate) fn least_with_0(first: i128, second: i128) -> (i128, usize)
 }
 
 // The least of the results that stand in a list from base + start to base + end, and its first place, counted from the base.
-pub(crate) fn least_between(
-    results: &[i128],
-    base: usize,
-    start: usize,
-    end: usize,
-) -> (i128, usize)
+pub fn least_between(results: &[i128], base: usize, start: usize, end: usize) -> (i128, usize)
     requires ordered { start ≤ end }
     requires within { base + end < length results.now }
     ensures value { result ≡ least_of int_le (λ q. get_or results.now (base + q) (pos 0)) start (end - start) }
@@ -43,7 +38,7 @@ pub(crate) fn least_between(
 }
 
 // The lesser of 0 and a result.
-pub(crate) fn lesser_of_0(res: i128) -> i128
+pub fn lesser_of_0(res: i128) -> i128
     ensures value { result ≡ int_min (pos 0) res }
     ensures size { unsigned_abs result ≤ unsigned_abs res }
 {

@@ -5,7 +5,7 @@ use crate::scene::Scene;
 
 impl<'a> Scene<'a> {
     // The baskets' results, with room for 17 points a basket.
-    pub(crate) fn basket_rows(&self) -> [i128; 68]
+    pub fn basket_rows(&self) -> [i128; 68]
         requires { Fits self.now }
         ensures { HoldsBaskets self.now result }
     {

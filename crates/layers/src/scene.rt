@@ -1,12 +1,12 @@
 // What the layers are worked out from: the cards, and the months' cells in a table.
 ghost use Rattle.std.specs.Prelude.{◌≡◌, ◌^◌, ◌<◌, ◌≤◌, unsigned_abs};
 ghost use Rattle.layers.specs.Scenes.{Fits, cells_of};
-ghost use Rattle.layers.specs.Tables.{cell_place};
+ghost use Rattle.layers.specs.Tables.{place_of};
 
 use terms::cards::{Basket, Family, Line, Month};
 
 #[derive(Clone, Copy, Drop)]
-pub(crate) struct Scene<'a> {
+pub struct Scene<'a> {
     pub families: &'a [Family],
     pub baskets: &'a [Basket],
     pub months: &'a [Month],
@@ -21,7 +21,7 @@ pub(crate) struct Scene<'a> {
 // Where a cell stands in the table.
 fn place(m: usize, p: usize, k: usize) -> usize
     requires { (m < 8) × ((p < 17) × (k < 7)) }
-    ensures value { result ≡ cell_place m p k }
+    ensures value { result ≡ place_of m p k }
     ensures inside { result < 952 }
 {
     (m * 17 + p) * 7 + k
@@ -29,7 +29,7 @@ fn place(m: usize, p: usize, k: usize) -> usize
 
 impl<'a> Scene<'a> {
     // A month's cell; 0 outside the grid.
-    pub(crate) fn cell(&self, m: usize, p: usize, k: usize) -> i128
+    pub fn cell(&self, m: usize, p: usize, k: usize) -> i128
         requires { Fits self.now }
         ensures value { result ≡ cells_of self.now m p k }
         ensures size { unsigned_abs result ≤ 2 ^ 70 }

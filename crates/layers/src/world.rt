@@ -1,9 +1,9 @@
 // The world handed out, as far as it is chosen from the cells.
-ghost use Rattle.std.specs.Prelude.{◌≡◌, ℕ, ◌+◌, ◌-◌, ◌<◌, ◌≤◌, length, Some, None};
+ghost use Rattle.std.specs.Prelude.{◌≡◌, ℕ, ◌+◌, ◌-◌, ◌<◌, ◌≤◌, length, Some};
 ghost use Rattle.margin.specs.Book.{named, basket as basket_card, month as month_card};
-ghost use Rattle.margin.specs.HandedOut.{take_if_below0, column_at, kept_with, month_in, basket_in, family_point, basket_point, month_kept, family_choice, basket_choice, month_choice};
+ghost use Rattle.margin.specs.HandedOut.{take_if_below0, column_at, kept_with, month_in, basket_in, family_point, basket_point, month_kept};
 ghost use Rattle.layers.specs.Rows.{Lists};
-ghost use Rattle.layers.specs.Scenes.{Fits, HoldsBaskets, NamesBaskets, in_scene, cards_of, cells_of};
+ghost use Rattle.layers.specs.Scenes.{Fits, HoldsBaskets, NamesBaskets, cards_of, cells_of, family_choice, basket_choice, month_choice};
 
 use crate::naming::number;
 use crate::scene::Scene;
@@ -58,7 +58,7 @@ impl<'a> Scene<'a> {
     // A month in a basket at a point.
     fn month_in(&self, b: usize, p: usize, m: usize) -> Option<Kept>
         requires { Fits self.now }
-        ensures { result ≡ in_scene month_in self.now b p m }
+        ensures { result ≡ month_in self.now.last (cards_of self.now) (cells_of self.now) b p m }
     {
         if self.is_netted_basket(b) {
             Some(self.kept_with(self.netted_column(b, p).1, m, p))
@@ -76,7 +76,7 @@ impl<'a> Scene<'a> {
         requires held { HoldsBaskets self.now rows.now }
         requires basket { b < 4 }
         requires point { p ≤ self.now.last }
-        ensures { result ≡ in_scene basket_in self.now f p b }
+        ensures { result ≡ basket_in self.now.last (cards_of self.now) (cells_of self.now) f p b }
     {
         if self.is_netted_family(f) {
             Some(self.worst_within(rows, self.window(f), b, p).1)
@@ -86,10 +86,10 @@ impl<'a> Scene<'a> {
     }
 
     // The point of a family, or none where it is left out.
-    pub(crate) fn family_point(&self, rows: &[i128], f: usize) -> Option<usize>
+    pub fn family_point(&self, rows: &[i128], f: usize) -> Option<usize>
         requires fits { Fits self.now }
         requires held { HoldsBaskets self.now rows.now }
-        ensures value { result ≡ in_scene family_point self.now f }
+        ensures value { result ≡ family_point self.now.last (cards_of self.now) (cells_of self.now) f }
         ensures on_grid { (p : ℕ) → result ≡ Some p → p ≤ self.now.last }
     {
         let (result, point) = self.family_worst(rows, f);
@@ -108,11 +108,11 @@ impl<'a> Scene<'a> {
     }
 
     // The point of a basket, or none where it is left out.
-    pub(crate) fn basket_point(&self, rows: &[i128], b: usize) -> Option<usize>
+    pub fn basket_point(&self, rows: &[i128], b: usize) -> Option<usize>
         requires fits { Fits self.now }
         requires held { HoldsBaskets self.now rows.now }
         requires basket { b < 4 }
-        ensures { result ≡ in_scene basket_point self.now b }
+        ensures { result ≡ basket_point self.now.last (cards_of self.now) (cells_of self.now) b }
     {
         let f = self.family_of(b);
         match self.family_point(rows, f) {
@@ -122,12 +122,12 @@ impl<'a> Scene<'a> {
     }
 
     // The columns of a month, or none where it is left out.
-    pub(crate) fn month_kept(&self, rows: &[i128], m: usize) -> Option<Kept>
+    pub fn month_kept(&self, rows: &[i128], m: usize) -> Option<Kept>
         requires fits { Fits self.now }
         requires held { HoldsBaskets self.now rows.now }
         requires month { m < length self.now.months.now }
         requires basket { named (month_card (cards_of self.now) m).basket < 4 }
-        ensures { result ≡ in_scene month_kept self.now m }
+        ensures { result ≡ month_kept self.now.last (cards_of self.now) (cells_of self.now) m }
     {
         let b = number(self.months[m].basket);
         match self.basket_point(rows, b) {
@@ -139,7 +139,7 @@ impl<'a> Scene<'a> {
     fn chosen_family(&self, rows: &[i128], f: usize) -> Option<usize>
         requires fits { Fits self.now }
         requires held { HoldsBaskets self.now rows.now }
-        ensures { result ≡ in_scene family_choice self.now f }
+        ensures { result ≡ family_choice self.now f }
     {
         if f < self.families.len() {
             self.family_point(rows, f)
@@ -151,7 +151,7 @@ impl<'a> Scene<'a> {
     fn chosen_basket(&self, rows: &[i128], b: usize) -> Option<usize>
         requires fits { Fits self.now }
         requires held { HoldsBaskets self.now rows.now }
-        ensures { result ≡ in_scene basket_choice self.now b }
+        ensures { result ≡ basket_choice self.now b }
     {
         if b < self.baskets.len() {
             self.basket_point(rows, b)
@@ -164,7 +164,7 @@ impl<'a> Scene<'a> {
         requires fits { Fits self.now }
         requires held { HoldsBaskets self.now rows.now }
         requires named { NamesBaskets self.now }
-        ensures { result ≡ in_scene month_choice self.now m }
+        ensures { result ≡ month_choice self.now m }
     {
         if m < self.months.len() {
             self.month_kept(rows, m)
@@ -174,10 +174,10 @@ impl<'a> Scene<'a> {
     }
 
     // The families' points in the world handed out.
-    pub(crate) fn chosen_families(&self, rows: &[i128]) -> [Option<usize>; 2]
+    pub fn chosen_families(&self, rows: &[i128]) -> [Option<usize>; 2]
         requires fits { Fits self.now }
         requires held { HoldsBaskets self.now rows.now }
-        ensures { Lists None (in_scene family_choice self.now) result }
+        ensures { Lists (family_choice self.now) result }
     {
         let mut list = [None; 2];
         for f in 0..2 {
@@ -187,10 +187,10 @@ impl<'a> Scene<'a> {
     }
 
     // The baskets' points.
-    pub(crate) fn chosen_baskets(&self, rows: &[i128]) -> [Option<usize>; 4]
+    pub fn chosen_baskets(&self, rows: &[i128]) -> [Option<usize>; 4]
         requires fits { Fits self.now }
         requires held { HoldsBaskets self.now rows.now }
-        ensures { Lists None (in_scene basket_choice self.now) result }
+        ensures { Lists (basket_choice self.now) result }
     {
         let mut list = [None; 4];
         for b in 0..4 {
@@ -200,11 +200,11 @@ impl<'a> Scene<'a> {
     }
 
     // The months' columns.
-    pub(crate) fn chosen_months(&self, rows: &[i128]) -> [Option<Kept>; 8]
+    pub fn chosen_months(&self, rows: &[i128]) -> [Option<Kept>; 8]
         requires fits { Fits self.now }
         requires held { HoldsBaskets self.now rows.now }
         requires named { NamesBaskets self.now }
-        ensures { Lists None (in_scene month_choice self.now) result }
+        ensures { Lists (month_choice self.now) result }
     {
         let mut list = [None; 8];
         for m in 0..8 {

@@ -98,7 +98,7 @@ pub(crate) fn day(text: &[u8], lists: &mut Lists) -> Result<Loaded, Refusal>
     ensures long { lengths_of (contents_of lists.new) ≡ lengths_of (contents_of lists.old) }
 {
     let mut reader = read_from(text);
-    let half = reader.form::<kinds::GridForm>()?;
+    let half = reader.form::<kinds::HalfForm>()?;
     let (families, baskets, months) = cards(&mut reader, lists)?;
     let (futures, options, prices) = contracts(&mut reader, lists, half)?;
     let cash = reader.form::<kinds::CashForm>()?;

@@ -11,9 +11,10 @@ use Rattle.margin.specs.declared.choice.Kept.{Kept}
 use Rattle.margin.specs.Book.{Cards, Book, named, month, line, order, netted_family, netted_basket, window_of, in_family, in_basket, in_month, over_months}
 use Rattle.margin.specs.Cells.{cells}
 use Rattle.margin.specs.Worlds.{AtMostOne, HalfMonth, counted_in}
-use Rattle.margin.specs.HandedOut.{take_if_below0, column_at, kept_with, family_point, basket_point, month_kept, choices, loses, loses_in, counted_at, counted_of, handed_out}
+use Rattle.margin.specs.HandedOut.{take_if_below0, column_at, kept_with, family_point, basket_point, month_kept, choices, order_loses, order_loses_in, order_counted_at, counted_of, handed_out}
 use Rattle.margin.specs.Layers.{window_start, window_end, volatility_result, rate_result, twist_result, month_result, netted_column, basket_result, worst_within, family_result, family_worst}
 use Rattle.margin.specs.Lowest.{Lowest, ColumnChosen, Keeps, RestChosen, MonthChosen, MonthsChosen, BasketChosen, FamilyChosen, HandedOutIsLowest}
+use Rattle.margin.proofs.Counting.{counted_same}
 use Rattle.margin.proofs.ByRule.{chosen, netted_month, half_month, netted_choice, half_choice}
 use Rattle.margin.proofs.Reached.{named_is, kept_allowed, up_to_is, month_is, basket_is}
 use Rattle.margin.proofs.SumLaws.{≤ℤ-trans, least_is}
@@ -105,27 +106,28 @@ of_three row (suc (suc (suc i))) h = absurd (omega arith)
 -- ---- the world handed out
 module _ (last : ℕ) (price : ℕ → ℕ → ℕ → ℤ) (cards : Cards) (book : Book) where
   -- an order of a month that is kept
-  counted_is : (m p i : ℕ) (kept : Kept) → basket_point last cards (cells last price cards book) (named (month cards m).basket) ≡ Some p → month_kept last cards (cells last price cards book) m ≡ Some kept → in_month cards m (order book i).line ≡ true → counted_of last price cards book i ≡ counted_at price (order book i) (Some p) (Some kept)
-  unfolding counted_of in_month
+  counted_is : (m p i : ℕ) (kept : Kept) → basket_point last cards (cells last price cards book) (named (month cards m).basket) ≡ Some p → month_kept last cards (cells last price cards book) m ≡ Some kept → in_month cards m (order book i).line ≡ true → counted_of last price cards book i ≡ order_counted_at price (order book i) (Some p) (Some kept)
+  unfolding in_month
   counted_is m p i kept point is inside =
       let at-month : named (line cards (order book i).line).month ≡ m = named_is (line cards (order book i).line).month m inside in
-      ap (λ (n : ℕ). counted_at price (order book i) (basket_point last cards (cells last price cards book) (named (month cards n).basket)) (month_kept last cards (cells last price cards book) n)) at-month
-      ∙ ap (λ (o : Option ℕ). counted_at price (order book i) o (month_kept last cards (cells last price cards book) m)) point
-      ∙ ap (counted_at price (order book i) (Some p)) is
+      counted_same last price cards book i
+      ∙ ap (λ (n : ℕ). order_counted_at price (order book i) (basket_point last cards (cells last price cards book) (named (month cards n).basket)) (month_kept last cards (cells last price cards book) n)) at-month
+      ∙ ap (λ (o : Option ℕ). order_counted_at price (order book i) o (month_kept last cards (cells last price cards book) m)) point
+      ∙ ap (order_counted_at price (order book i) (Some p)) is
 
-  counted_in_lem : (o : Open) (p : ℕ) (kept : Kept) → HalfMonth (Some kept) → (k : ℕ) → Keeps kept k → counted_in (counted_at price o (Some p) (Some kept)) k ≡ loses price o p k
+  counted_in_lem : (o : Open) (p : ℕ) (kept : Kept) → HalfMonth (Some kept) → (k : ℕ) → Keeps kept k → counted_in (order_counted_at price o (Some p) (Some kept)) k ≡ order_loses price o p k
   unfolding counted_in
-  counted_in_lem o p kept h k (inl e) = rw e (chosen (loses price o p kept.volatility) _ (leb kept.volatility 2) true (le-leb kept.volatility 2 h.0))
+  counted_in_lem o p kept h k (inl e) = rw e (chosen (order_loses price o p kept.volatility) _ (leb kept.volatility 2) true (le-leb kept.volatility 2 h.0))
   counted_in_lem o p kept h k (inr (inl e)) = by (subst (AtMostOne 3) e h.1.one_rate)
     where
-      by : (k ≡ 3) ⊎ (k ≡ 3 + 1) → counted_in (counted_at price o (Some p) (Some kept)) k ≡ loses price o p k
-      by (inl a) = rw a (ap (loses_in price o p) (e ∙ ap Some a))
-      by (inr a) = rw a (ap (loses_in price o p) (e ∙ ap Some a))
+      by : (k ≡ 3) ⊎ (k ≡ 3 + 1) → counted_in (order_counted_at price o (Some p) (Some kept)) k ≡ order_loses price o p k
+      by (inl a) = rw a (ap (order_loses_in price o p) (e ∙ ap Some a))
+      by (inr a) = rw a (ap (order_loses_in price o p) (e ∙ ap Some a))
   counted_in_lem o p kept h k (inr (inr e)) = by (subst (AtMostOne 5) e h.1.one_twist)
     where
-      by : (k ≡ 5) ⊎ (k ≡ 5 + 1) → counted_in (counted_at price o (Some p) (Some kept)) k ≡ loses price o p k
-      by (inl a) = rw a (ap (loses_in price o p) (e ∙ ap Some a))
-      by (inr a) = rw a (ap (loses_in price o p) (e ∙ ap Some a))
+      by : (k ≡ 5) ⊎ (k ≡ 5 + 1) → counted_in (order_counted_at price o (Some p) (Some kept)) k ≡ order_loses price o p k
+      by (inl a) = rw a (ap (order_loses_in price o p) (e ∙ ap Some a))
+      by (inr a) = rw a (ap (order_loses_in price o p) (e ∙ ap Some a))
 
   rate_chosen : (m p k : ℕ) → ColumnChosen (cells last price cards book m p) 3 (kept_with (cells last price cards book) k m p).rate
   unfolding kept_with rate_result

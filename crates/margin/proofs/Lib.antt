@@ -3,6 +3,7 @@ pub mod SumLaws
 pub mod ByRule
 pub mod Below
 pub mod Reached
+pub mod Counting
 pub mod Orders
 pub mod Products
 pub mod Fills

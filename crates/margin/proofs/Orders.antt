@@ -9,9 +9,10 @@ use Rattle.margin.specs.declared.choice.Counted.{Counted}
 use Rattle.margin.specs.Book.{Cards, Book, named, basket, month, line, order, of_line, in_month, in_basket, position, over_lines}
 use Rattle.margin.specs.Cells.{position_result, order_result, charged, gridded, line_cell, month_cell, cells}
 use Rattle.margin.specs.Worlds.{World, AtMostOne, HalfMonth, column_taken, month_taken, basket_taken, family_taken, taken, counted_in, world_cells}
-use Rattle.margin.specs.HandedOut.{up_to, basket_point, month_kept, choices, loses, loses_in, counted_at, counted_of, handed_out}
+use Rattle.margin.specs.HandedOut.{up_to, basket_point, month_kept, choices, order_loses, order_loses_in, order_counted_at, counted_of, handed_out}
 use Rattle.margin.proofs.ByRule.{chosen}
 use Rattle.margin.proofs.SumLaws.{sum_le, under, not_under, total_le}
+use Rattle.margin.proofs.Counting.{counted_same}
 use Rattle.margin.proofs.Below.{lesser_0, lesser_r}
 use Rattle.margin.proofs.Reached.{named_is, up_to_some, month_allowed}
 
@@ -59,19 +60,20 @@ module _ (last : ℕ) (price : ℕ → ℕ → ℕ → ℤ) (cards : Cards) (boo
   -- ---- the world handed out
   -- an order's month, in a cell that the month takes
   module _ (m p : ℕ) (kept : Kept) (point : basket_point last cards (cells last price cards book) (named (month cards m).basket) ≡ Some p) (is : month_kept last cards (cells last price cards book) m ≡ Some kept) where
-    counted_is : (l i : ℕ) → in_month cards m l ≡ true → of_line book l i ≡ true → counted_of last price cards book i ≡ counted_at price (order book i) (Some p) (Some kept)
-    unfolding counted_of in_month of_line
+    counted_is : (l i : ℕ) → in_month cards m l ≡ true → of_line book l i ≡ true → counted_of last price cards book i ≡ order_counted_at price (order book i) (Some p) (Some kept)
+    unfolding in_month of_line
     counted_is l i inside its =
         let at-line : (order book i).line ≡ l = eqb→eq _ _ (subst T (sym its) tt) in
         let at-month : named (line cards (order book i).line).month ≡ m = ap (λ (n : ℕ). named (line cards n).month) at-line ∙ named_is (line cards l).month m inside in
-        ap (λ (n : ℕ). by (basket_point last cards (cells last price cards book) (named (month cards n).basket)) (month_kept last cards (cells last price cards book) n)) at-month
+        counted_same last price cards book i
+        ∙ ap (λ (n : ℕ). by (basket_point last cards (cells last price cards book) (named (month cards n).basket)) (month_kept last cards (cells last price cards book) n)) at-month
         ∙ ap (λ (o : Option ℕ). by o (month_kept last cards (cells last price cards book) m)) point
         ∙ ap (by (Some p)) is
       where
         by : Option ℕ → Option Kept → Counted
-        by = counted_at price (order book i)
+        by = order_counted_at price (order book i)
 
-    cell_lowest : (k : ℕ) → ((i : ℕ) → counted_in (counted_at price (order book i) (Some p) (Some kept)) k ≡ loses price (order book i) p k) → world_cells last price cards book (handed_out last price cards book) m p k ≤ℤ cells last price cards book m p k
+    cell_lowest : (k : ℕ) → ((i : ℕ) → counted_in (order_counted_at price (order book i) (Some p) (Some kept)) k ≡ order_loses price (order book i) p k) → world_cells last price cards book (handed_out last price cards book) m p k ≤ℤ cells last price cards book m p k
     unfolding cells world_cells handed_out choices of_line
     cell_lowest k h = cell_le _ _ m p k (λ l i inside its.
         let at-line : (order book i).line ≡ l = eqb→eq _ _ (subst T (sym its) tt) in
@@ -80,19 +82,19 @@ module _ (last : ℕ) (price : ℕ → ℕ → ℕ → ℤ) (cards : Cards) (boo
 
     volatility_lowest : kept.volatility ≤ 2 → world_cells last price cards book (handed_out last price cards book) m p kept.volatility ≤ℤ cells last price cards book m p kept.volatility
     unfolding counted_in
-    volatility_lowest h = cell_lowest kept.volatility (λ i. chosen (loses price (order book i) p kept.volatility) _ (leb kept.volatility 2) true (grind (arith, nat_tests)))
+    volatility_lowest h = cell_lowest kept.volatility (λ i. chosen (order_loses price (order book i) p kept.volatility) _ (leb kept.volatility 2) true (grind (arith, nat_tests)))
 
     rate_lowest : (o : Option ℕ) → kept.rate ≡ o → AtMostOne 3 o → column_taken (world_cells last price cards book (handed_out last price cards book) m p) o ≤ℤ column_taken (cells last price cards book m p) o
     unfolding counted_in
     rate_lowest None e h = ≤ℤ_refl (pos 0)
-    rate_lowest (Some k) e (inl a) = rw a (cell_lowest 3 (λ i. ap (loses_in price (order book i) p) (e ∙ ap Some a)))
-    rate_lowest (Some k) e (inr a) = rw a (cell_lowest 4 (λ i. ap (loses_in price (order book i) p) (e ∙ ap Some a)))
+    rate_lowest (Some k) e (inl a) = rw a (cell_lowest 3 (λ i. ap (order_loses_in price (order book i) p) (e ∙ ap Some a)))
+    rate_lowest (Some k) e (inr a) = rw a (cell_lowest 4 (λ i. ap (order_loses_in price (order book i) p) (e ∙ ap Some a)))
 
     twist_lowest : (o : Option ℕ) → kept.twist ≡ o → AtMostOne 5 o → column_taken (world_cells last price cards book (handed_out last price cards book) m p) o ≤ℤ column_taken (cells last price cards book m p) o
     unfolding counted_in
     twist_lowest None e h = ≤ℤ_refl (pos 0)
-    twist_lowest (Some k) e (inl a) = rw a (cell_lowest 5 (λ i. ap (loses_in price (order book i) p) (e ∙ ap Some a)))
-    twist_lowest (Some k) e (inr a) = rw a (cell_lowest 6 (λ i. ap (loses_in price (order book i) p) (e ∙ ap Some a)))
+    twist_lowest (Some k) e (inl a) = rw a (cell_lowest 5 (λ i. ap (order_loses_in price (order book i) p) (e ∙ ap Some a)))
+    twist_lowest (Some k) e (inr a) = rw a (cell_lowest 6 (λ i. ap (order_loses_in price (order book i) p) (e ∙ ap Some a)))
 
     kept_lowest : HalfMonth (Some kept) → month_taken (world_cells last price cards book (handed_out last price cards book)) m p (Some kept) ≤ℤ month_taken (cells last price cards book) m p (Some kept)
     kept_lowest h = sum_le _ _ _ _ (volatility_lowest h.0) (sum_le _ _ _ _ (rate_lowest kept.rate refl h.1.one_rate) (twist_lowest kept.twist refl h.1.one_twist))

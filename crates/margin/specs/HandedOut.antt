@@ -64,26 +64,26 @@ module _ (last : ℕ) (cards : Cards) (cells : ℕ → ℕ → ℕ → ℤ) wher
 
   -- the world of these choices that counts the orders so
   unfoldable pub choices : (ℕ → Counted) → World
-  choices orders = record { families = family_choice; baskets = basket_choice; months = month_choice; orders = orders }
+  choices orders = record { families = up_to (length cards.families) family_point; baskets = up_to (length cards.baskets) basket_point; months = up_to (length cards.months) month_kept; orders = orders }
 
 -- ---- the orders
 module _ (price : ℕ → ℕ → ℕ → ℤ) where
   -- whether an order loses at a point and column
-  abbrev pub loses : Open → ℕ → ℕ → Bool
-  loses o p k = int_lt (order_result o (price o.line p k) k) (pos 0)
+  abbrev pub order_loses : Open → ℕ → ℕ → Bool
+  order_loses o p k = int_lt (order_result o (price o.line p k) k) (pos 0)
 
-  abbrev pub loses_in : Open → ℕ → Option ℕ → Bool
-  loses_in o p None = false
-  loses_in o p (Some k) = loses o p k
+  abbrev pub order_loses_in : Open → ℕ → Option ℕ → Bool
+  order_loses_in o p None = false
+  order_loses_in o p (Some k) = order_loses o p k
 
   -- an order of a month that is not kept is counted nowhere
-  abbrev pub counted_at : Open → Option ℕ → Option Kept → Counted
-  counted_at o point kept =
+  abbrev pub order_counted_at : Open → Option ℕ → Option Kept → Counted
+  order_counted_at o point kept =
       elim point [
         | None ↦ nowhere
         | Some p ↦ elim kept [
           | None ↦ nowhere
-          | Some columns ↦ record { volatility = loses o p columns.volatility; rate = loses_in o p columns.rate; twist = loses_in o p columns.twist }
+          | Some columns ↦ record { volatility = order_loses o p columns.volatility; rate = order_loses_in o p columns.rate; twist = order_loses_in o p columns.twist }
         ]
       ]
 
@@ -91,11 +91,35 @@ module _ (price : ℕ → ℕ → ℕ → ℤ) where
   abbrev pub counted_by : Cards → (ℕ → Option ℕ) → (ℕ → Option Kept) → Open → Counted
   counted_by cards baskets months o =
       let m = named (line cards o.line).month in
-      counted_at o (baskets (named (month cards m).basket)) (months m)
+      order_counted_at o (baskets (named (month cards m).basket)) (months m)
 
+-- the same of the orders of a book, by their places in it
 module _ (last : ℕ) (price : ℕ → ℕ → ℕ → ℤ) (cards : Cards) (book : Book) where
+  -- whether an order loses at a point and column
+  unfoldable pub loses : ℕ → ℕ → ℕ → Bool
+  loses i p k = int_lt (order_result (order book i) (price (order book i).line p k) k) (pos 0)
+
+  unfoldable pub loses_in : ℕ → ℕ → Option ℕ → Bool
+  loses_in i p None = false
+  loses_in i p (Some k) = loses i p k
+
+  unfoldable pub counted_at : ℕ → Option ℕ → Option Kept → Counted
+  counted_at i point kept =
+      let nowhere : Counted = record { volatility = false; rate = false; twist = false } in
+      elim point [
+        | None ↦ nowhere
+        | Some p ↦ elim kept [
+          | None ↦ nowhere
+          | Some columns ↦ record { volatility = loses i p columns.volatility; rate = loses_in i p columns.rate; twist = loses_in i p columns.twist }
+        ]
+      ]
+
+  -- an order of a month that is not kept is counted nowhere
   unfoldable pub counted_of : ℕ → Counted
-  counted_of i = let c = cells last price cards book in counted_by price cards (basket_point last cards c) (month_kept last cards c) (order book i)
+  counted_of i =
+      let c = cells last price cards book in
+      let m = named (line cards (order book i).line).month in
+      counted_at i (basket_point last cards c (named (month cards m).basket)) (month_kept last cards c m)
 
   unfoldable pub handed_out : World
   handed_out = choices last cards (cells last price cards book) counted_of

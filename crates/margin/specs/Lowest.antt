@@ -5,7 +5,7 @@ use Rattle.margin.specs.Book.{Cards, Book, order, netted_family, netted_basket, 
 use Rattle.margin.specs.Cells.{cells}
 use Rattle.margin.specs.Layers.{window_start, window_end, month_result, basket_result, family_result}
 use Rattle.margin.specs.Worlds.{World, EachBasket, EachMonth, counted_in}
-use Rattle.margin.specs.HandedOut.{loses, handed_out}
+use Rattle.margin.specs.HandedOut.{order_loses, handed_out}
 
 -- the lowest place, from one to another, at which a row is least
 pub record Lowest (row : ℕ → ℤ) (first end place : ℕ) : Type 0 where
@@ -31,7 +31,7 @@ module _ (last : ℕ) (price : ℕ → ℕ → ℕ → ℤ) (cards : Cards) (boo
   pub record RestChosen (m p : ℕ) (kept : Kept) : Type 0 where
     pub rate : ColumnChosen (cell m p) 3 kept.rate
     pub twist : ColumnChosen (cell m p) 5 kept.twist
-    pub orders : (i : ℕ) → in_month cards m (order book i).line ≡ true → (k : ℕ) → Keeps kept k → counted_in (w.orders i) k ≡ loses price (order book i) p k
+    pub orders : (i : ℕ) → in_month cards m (order book i).line ≡ true → (k : ℕ) → Keeps kept k → counted_in (w.orders i) k ≡ order_loses price (order book i) p k
 
   -- a netted basket's month has the lowest column of which the months' sum is least
   abbrev pub MonthChosen : ℕ → ℕ → ℕ → Bool → Option Kept → Type 0

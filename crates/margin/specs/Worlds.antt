@@ -1,5 +1,5 @@
 -- Worlds: what may come about in one session, choice by choice, and what a book loses in each. Nothing here speaks of a least result.
-use Rattle.std.specs.Prelude.{◌≡◌, ℕ, ◌+◌, ◌<◌, ◌≤◌, Bool, true, false, ◌⊎◌, length, ℤ, pos, ◌+ℤ◌, neg_ℤ, Some, None, Option, nat_le, slice_index_or}
+use Rattle.std.specs.Prelude.{◌≡◌, ℕ, ◌+◌, ◌<◌, ◌≤◌, Bool, true, false, ◌⊎◌, List, length, ℤ, pos, ◌+ℤ◌, neg_ℤ, Some, None, Option, nat_le, slice_index_or}
 use Rattle.margin.specs.declared.choice.Kept.{Kept}
 use Rattle.margin.specs.declared.choice.Counted.{Counted}
 use Rattle.margin.specs.declared.choice.World as listed
@@ -17,13 +17,17 @@ pub record World : Type 0 where
   -- the cells in which each open order is counted
   pub orders : ℕ → Counted
 
+-- a world whose choices stand in lists; nothing is taken beyond their ends
+abbrev pub world_of : List (Option ℕ) → List (Option ℕ) → List (Option Kept) → (ℕ → Counted) → World
+world_of families baskets months orders = record { families = λ f. slice_index_or families f None; baskets = λ b. slice_index_or baskets b None; months = λ m. slice_index_or months m None; orders = orders }
+
 -- an order that is counted in no cell
 abbrev pub nowhere : Counted
 nowhere = record { volatility = false; rate = false; twist = false }
 
--- the world whose choices stand in lists: beyond their ends nothing is taken and no order counted
-abbrev pub world_of : listed.World → World
-world_of w = record { families = λ f. slice_index_or w.families f None; baskets = λ b. slice_index_or w.baskets b None; months = λ m. slice_index_or w.months m None; orders = λ i. slice_index_or w.orders i nowhere }
+-- the same of a world as plain values: beyond the list's end no order is counted
+abbrev pub listed_world : listed.World → World
+listed_world w = world_of w.families w.baskets w.months (λ i. slice_index_or w.orders i nowhere)
 
 -- ---- which choices make a world
 -- the points of the grid that lie within w points of p

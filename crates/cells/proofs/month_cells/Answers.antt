@@ -18,5 +18,5 @@ returns g c =
     let cards = deck_cards deck in
     let book = book_of c.args.book in
     let is = c.desk_for.ensures in
-    let held : Holds (at_place (month_share (last_of bank) bank.price cards book)) (2 ^ 70) 952 952 c.table.result.cells = simp (is.bank, is.deck, is.book, is.last) at c.table.ensures in
-    held_cells (last_of bank) cards (month_share (last_of bank) bank.price cards book) (2 ^ 70) c.table.result.cells (few_points bank.half) (few_months deck) held
+    let held : Holds (at_place (month_share (last_of bank) bank.price cards book)) (2 ^ 70) 952 952 c.table.result = simp (is.bank, is.deck, is.book, is.last) at c.table.ensures in
+    held_cells (last_of bank) cards (month_share (last_of bank) bank.price cards book) (2 ^ 70) c.table.result (few_points bank.half) (few_months deck) held

@@ -6,9 +6,9 @@ use Rattle.calls.proofs.orders.has_number.Goals as goal
 pub returns-then-number-ge0 : goal.returns-then-number-ge0
 returns-then-number-ge0 c =
     let fits = c.ranges.number in
-    ap (λ (n : ℕ). eqb n c.args.own_val) (simp to_z-of_z at c.size.ensures) ∙ names_size c.args.number c.args.own_val (simp to_z-of_z at c.if-number-ge0.true)
+    ap (λ (n : ℕ). eqb n c.args.own) (simp to_z-of_z at c.size.ensures) ∙ names_size c.args.number c.args.own (simp to_z-of_z at c.if-number-ge0.true)
 
 pub returns-else-number-ge0 : goal.returns-else-number-ge0
 returns-else-number-ge0 c =
     let fits = c.ranges.number in
-    c.if-number-ge0.false ∙ sym (names_none c.args.number c.args.own_val (simp to_z-of_z at c.if-number-ge0.false))
+    c.if-number-ge0.false ∙ sym (names_none c.args.number c.args.own (simp to_z-of_z at c.if-number-ge0.false))

@@ -2,8 +2,8 @@ use Rattle.std.proofs.Common.{◌≡◌, suc, ◌≤◌, List, ◌++◌, length,
 use Rattle.std.proofs.lemmas.List.{get_or_read, get_or-set_same}
 use Rattle.account.specs.declared.orders.Order.{Order}
 use Rattle.account.specs.declared.orders.Event.{Event}
-use Rattle.account.specs.Orders.{order_after, kept}
-use Rattle.calls.specs.Accounts.{SmallEvent, none_open}
+use Rattle.account.specs.Orders.{SmallEvent, order_after, kept}
+use Rattle.calls.specs.Accounts.{none_open}
 use Rattle.calls.proofs.Places.{changed_settled}
 use Rattle.calls.proofs.Signs.{back, left_small}
 use Rattle.calls.proofs.orders.meet_at.Goals as goal

@@ -9,14 +9,15 @@ use Rattle.layers.proofs.outcome.worked_out.Goals as goal
 
 pub returns : goal.returns
 returns c =
-    let is = c.view-scene.ensures in
-    let views : Views c.view-scene.result (last_point c.args.half) (deck_cards c.args.deck.now) c.args.cells.now.cells = record { cards_are = is.cards; table_is = is.table; last_is = is.last } in
+    let is = c.view.ensures in
+    let found = c.outcome.ensures in
+    let views : Views c.view.result (last_point c.args.half) (deck_cards c.args.deck.now) c.args.cells.now.cells = record { cards_are = is.cards; table_is = is.table; last_is = is.last } in
     record {
-      amount = c.margin.ensures ∙ seen views margin_of;
-      losses = c.losses-losses.ensures.value ∙ seen views each_loss;
-      worsts = c.worsts-worsts.ensures.value ∙ seen views each_worst;
-      costliest = c.costliest.ensures ∙ seen views costliest;
-      families = λ k. c.chosen_families.ensures k ∙ seen views (λ last cards cells. family_choice last cards cells k);
-      baskets = λ k. c.chosen_baskets.ensures k ∙ seen views (λ last cards cells. basket_choice last cards cells k);
-      months = λ k. c.chosen_months.ensures k ∙ seen views (λ last cards cells. month_choice last cards cells k);
+      amount = found.amount ∙ seen views margin_of;
+      losses = found.losses ∙ seen views each_loss;
+      worsts = found.worsts ∙ seen views each_worst;
+      costliest = found.costliest ∙ seen views costliest;
+      families = λ k. found.families k ∙ seen views (λ last cards cells. family_choice last cards cells k);
+      baskets = λ k. found.baskets k ∙ seen views (λ last cards cells. basket_choice last cards cells k);
+      months = λ k. found.months k ∙ seen views (λ last cards cells. month_choice last cards cells k);
     }

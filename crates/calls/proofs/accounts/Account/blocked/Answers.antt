@@ -12,13 +12,13 @@ use Rattle.calls.proofs.accounts.Account.blocked.Goals as goal
 pub rests-rests-requires : goal.rests-rests-requires
 rests-rests-requires g c = rw c.as_slice.ensures.value (bounded g.B.Bank.meaning c.args.self.now).few_orders
 
-pub slice-bounds-rests-end : goal.slice-bounds-rests-end
-slice-bounds-rests-end g c =
+pub slice_bounds-rests-end : goal.slice_bounds-rests-end
+slice_bounds-rests-end g c =
     let few = (bounded g.B.Bank.meaning c.args.self.now).few_orders in
     omega (arith, c.rests-rests.ensures.long, c.len.ensures, c.args.self.now.orders.ok.0)
 
-pub slice-bounds-blocked_with-end : goal.slice-bounds-blocked_with-end
-slice-bounds-blocked_with-end g c =
+pub slice_bounds-blocked_with-end : goal.slice_bounds-blocked_with-end
+slice_bounds-blocked_with-end g c =
     let few = (bounded g.B.Bank.meaning c.args.self.now).few_orders in
     sym (length-take-le c.len.result c.rests-rests.result (omega (arith, c.rests-rests.ensures.long, c.len.ensures, c.args.self.now.orders.ok.0)))
 

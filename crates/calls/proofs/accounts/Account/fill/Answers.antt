@@ -16,9 +16,9 @@ use Rattle.calls.proofs.Signs.{back, handed}
 use Rattle.calls.proofs.Trading.{met_at, met_bounded, fill_small, moved_in, fill_kept, fill_told}
 use Rattle.calls.proofs.accounts.Account.fill.Goals as goal
 
-left_after : (q q' : ℤ) (o : Order) → q ≡ q' → nat_abs (order_after (Filled q) o).rest.left ≡ nat_abs (left_after (Filled q') o.rest.left)
+left_of_a_fill : (q q' : ℤ) (o : Order) → q ≡ q' → nat_abs (order_after (Filled q) o).rest.left ≡ nat_abs (left_after (Filled q') o.rest.left)
 unfolding order_after
-left_after q q' o e = ap (λ (z : ℤ). nat_abs (left_after (Filled z) o.rest.left)) e
+left_of_a_fill q q' o e = ap (λ (z : ℤ). nat_abs (left_after (Filled z) o.rest.left)) e
 
 pub returns-in-Err : goal.returns-in-Err
 returns-in-Err g c =
@@ -115,4 +115,4 @@ returns-in-Ok g c =
     let before = get_or_read s.positions c.index.result.now.rest.line c.index-in-Ok.result.now inside c.index-in-Ok.ensures no_position ∙ ap (λ (l : ℕ). get_or s.positions l no_position) line in
     let positions = moved_in s.positions c.index.result.now.rest.line _ c.moved.result c.index-in-Ok.result.now _ _ c.args.price line (c.moved.ensures ∙ ap (moved c.index-in-Ok.result.now _) (to_z-of_z w64 c.args.price c.ranges.price)) before contracts in
     let orders = c.meet_at.ensures.items ∙ ap (λ (q : ℤ). met_at c.in-Ok.place (Filled q) s.orders) (to_z-of_z w64 c.args.quantity c.ranges.quantity) in
-    fill_told s c.args.number c.in-Ok.place may.0 c.args.quantity c.args.price may.1 _ _ positions orders c.meet_at.result (c.meet_at.ensures.left ∙ left_after _ c.args.quantity (get_or s.orders c.in-Ok.place none_open) (to_z-of_z w64 c.args.quantity c.ranges.quantity))
+    fill_told s c.args.number c.in-Ok.place may.0 c.args.quantity c.args.price may.1 _ _ positions orders c.meet_at.result (c.meet_at.ensures.left ∙ left_of_a_fill _ c.args.quantity (get_or s.orders c.in-Ok.place none_open) (to_z-of_z w64 c.args.quantity c.ranges.quantity))

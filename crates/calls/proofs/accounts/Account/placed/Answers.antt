@@ -19,8 +19,8 @@ index_mut-requires g c =
     let inside = line_inside s b o.line o.left o.limit (none_refuses (bound_checks s (pos o.line) o.left o.limit) c.requires) in
     omega (arith, b.a_count_a_line, a.accepted.ok.0)
 
-pub overflow_add-self : goal.overflow_add-self
-overflow_add-self g c =
+pub overflow_add-index_mut : goal.overflow_add-index_mut
+overflow_add-index_mut g c =
     let a = c.args.self.now in
     let o = c.args.order in
     let s = state_of g.B.Bank.meaning a in
@@ -33,8 +33,8 @@ overflow_add-self g c =
     let size = c.size.ensures ∙ ap nat_abs (back o.left (omega arith)) in
     omega arith
 
-pub overflow_add-self-2 : goal.overflow_add-self-2
-overflow_add-self-2 g c =
+pub overflow_add-self : goal.overflow_add-self
+overflow_add-self g c =
     let a = c.args.self.now in
     let few = next_small (state_of g.B.Bank.meaning a) (bounded g.B.Bank.meaning a) (omega (arith, a.deck.few_lines, a.deck.lines.ok.0)) in
     omega arith

@@ -2,7 +2,7 @@ use Rattle.std.proofs.Common.{◌≡◌, ℕ, ◌≤◌, length, get_or, pos, sy
 use mir.Syntax.{w128}
 use Rattle.std.proofs.lemmas.Int.{to_z-of_z}
 use Rattle.layers.specs.Scenes.{cells_of}
-use Rattle.layers.specs.Tables.{cell_place}
+use Rattle.layers.specs.Tables.{place_of}
 use Rattle.layers.proofs.Grids.{on_grid, off_grid}
 use Rattle.layers.proofs.scene.Scene.cell.Goals as goal
 use Rattle.layers.proofs.scene.Scene.cell.Goals.{else-m-self-via-then-m-self+then-p-self+else-k-lt7, else-m-self-via-then-m-self+else-p-self, else-m-self-via-else-m-self}
@@ -15,14 +15,14 @@ returns-then-k-lt7 c =
     let is : to_z w128 (of_z w128 (get_or cells c.place.result (pos 0))) ≡ get_or cells c.place.result (pos 0) = to_z-of_z w128 _ fits in
     record {
       value = is ∙ ap (λ (n : ℕ). get_or cells n (pos 0)) c.place.ensures.value
-          ∙ sym (on_grid _ _ (λ m p k. get_or cells (cell_place m p k) (pos 0)) c.args.m c.args.p c.args.k (omega arith) (omega arith) (omega arith));
+          ∙ sym (on_grid _ _ (λ m p k. get_or cells (place_of m p k) (pos 0)) c.args.m c.args.p c.args.k (omega arith) (omega arith) (omega arith));
       size = rw is (c.requires.bounded c.place.result);
     }
 
 pub returns-else-m-self : goal.returns-else-m-self
 unfolding cells_of
 returns-else-m-self c =
-    let off = off_grid c.args.self.now.last (length c.args.self.now.months.now) (λ m p k. get_or c.args.self.now.cells.now (cell_place m p k) (pos 0)) c.args.m c.args.p c.args.k in
+    let off = off_grid c.args.self.now.last (length c.args.self.now.months.now) (λ m p k. get_or c.args.self.now.cells.now (place_of m p k) (pos 0)) c.args.m c.args.p c.args.k in
     record {
       value = elim c.else-m-self.branch [
         | else-m-self-via-then-m-self+then-p-self+else-k-lt7 w ↦ sym (off (λ h i j. omega arith))

@@ -2,7 +2,7 @@ use Rattle.std.proofs.Common.{◌≡◌, length, refl, ap, ◌∙◌, arith, lit
 use Rattle.margin.specs.Layers.{losses_below, grains}
 use Rattle.layers.specs.Scenes.{cards_of, cells_of}
 use Rattle.layers.proofs.Losses.{losses_next}
-use Rattle.layers.proofs.scene.Scene.grains.Goals as goal
+use Rattle.layers.proofs.scene.Scene.grains_of_losses.Goals as goal
 
 pub loop-f-init : goal.loop-f-init
 unfolding losses_below

@@ -1,7 +1,7 @@
 // What a basket adds up over its months.
 
 #[derive(Clone, Copy, PartialEq, Eq, Debug)]
-pub(crate) enum MonthPart {
+pub enum Part {
     // a column's cells
     Column(usize),
     // the rate and twist results

@@ -3,22 +3,22 @@ use Rattle.std.specs.Prelude.{ℕ, ◌≤◌, ℤ, pos, neg_ℤ, unsigned_abs}
 use Rattle.std.specs.Int.{int_min, int_max}
 use Rattle.margin.specs.Cells.{order_result}
 use Rattle.margin.specs.declared.book.Open.{Open}
-use Rattle.cells.specs.declared.order_part.OrderPart.{OrderPart}
-use Rattle.cells.specs.declared.order_part.OrderPart.TheVariants.{Loss, Buy, Sell}
+use Rattle.cells.specs.declared.part.Part.{Part}
+use Rattle.cells.specs.declared.part.Part.TheVariants.{Loss, Buy, Sell}
 
-abbrev pub order_part : OrderPart → Open → ℤ
-order_part (Loss price column) order = int_min (pos 0) (order_result order price column)
-order_part Buy order = int_max (pos 0) order.left
-order_part Sell order = int_max (pos 0) (neg_ℤ order.left)
+abbrev pub part_of : Part → Open → ℤ
+part_of (Loss price column) order = int_min (pos 0) (order_result order price column)
+part_of Buy order = int_max (pos 0) order.left
+part_of Sell order = int_max (pos 0) (neg_ℤ order.left)
 
 -- a price that a bank may answer
-abbrev pub Priced : OrderPart → Type 0
+abbrev pub Priced : Part → Type 0
 Priced (Loss price column) = unsigned_abs price ≤ 2000000000000
 Priced Buy = Unit {0}
 Priced Sell = Unit {0}
 
 -- the largest size of a part
-abbrev pub most_of : OrderPart → ℕ
+abbrev pub most_of : Part → ℕ
 most_of (Loss price column) = 28000000000000000
 most_of Buy = 10000
 most_of Sell = 10000

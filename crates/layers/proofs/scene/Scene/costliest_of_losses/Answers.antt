@@ -1,5 +1,5 @@
 use Rattle.layers.proofs.Losses.{costliest_some, costliest_none}
-use Rattle.layers.proofs.scene.Scene.costliest.Goals as goal
+use Rattle.layers.proofs.scene.Scene.costliest_of_losses.Goals as goal
 
 pub returns-in-Some : goal.returns-in-Some
 returns-in-Some c =
