@@ -57,6 +57,19 @@ fn forms_that_are_refused(rt: HostRuntime) {
 
 #[test]
 fn halves_of_a_grid(rt: HostRuntime) {
+    let cases: [(&[u8], Result<i64, Refusal>); 4] = [
+        (b"(grid (half 1))\n", Ok(1)),
+        (b"(grid (half 8))\n", Ok(8)),
+        (b"(grid (half 3))\n", Err(Refusal::OutsideField(12))),
+        (b"(gridx (half 1))\n", Err(Refusal::WrongForm(0))),
+    ];
+    for (text, answer) in cases {
+        assert_eq!(rt; read_from(text).form::<kinds::GridForm>(), answer);
+    }
+}
+
+#[test]
+fn halves_as_they_are(rt: HostRuntime) {
     let cases: [(&[u8], Result<Half, Refusal>); 4] = [
         (b"(grid (half 1))\n", Ok(Half::One)),
         (b"(grid (half 8))\n", Ok(Half::Eight)),
@@ -64,7 +77,7 @@ fn halves_of_a_grid(rt: HostRuntime) {
         (b"(gridx (half 1))\n", Err(Refusal::WrongForm(0))),
     ];
     for (text, answer) in cases {
-        assert_eq!(rt; read_from(text).form::<kinds::GridForm>(), answer);
+        assert_eq!(rt; read_from(text).form::<kinds::HalfForm>(), answer);
     }
 }
 

@@ -1,17 +1,15 @@
-// Prints the scenario sheet of two futures and an option, and of the same option in a contract of twice the size; and what must
-// be blocked for a calendar spread of the futures with open orders, and the world handed out with it. The futures come from
-// their cards, the option from a table of prices, and the whole is one bank.
+// Prints the scenario sheet of two futures and an option, and of the same option in a contract of twice the size, and what must
+// be blocked for a calendar spread of the futures. The futures come from their cards, the option from a table of prices, and the
+// whole is one bank.
 use banks::bank::Bank;
 use banks::pair::Pair;
 use banks::scale::Scale;
 use banks::strip::Strip;
 use banks::table::Table;
-use cover::Blocked;
 use cover::judged::margin_of;
 use deck::deck::Deck;
 use deck::given::Given;
 use margin::book::{Open, Position};
-use margin::choice::{Counted, Kept, World};
 use std::io;
 use terms::cards::{Basket, Family, Limits, Line, Month, Rates};
 use terms::fault::Fault;
@@ -52,7 +50,7 @@ fn run(rt: &HostRuntime) -> anyhow::Result<()> {
     Ok(())
 }
 
-// What must be blocked for a calendar spread of the two futures with three open orders, over the whole bank.
+// What must be blocked for a calendar spread of the two futures with an order to buy one more, over the whole bank.
 fn margin<B: Bank>(rt: &HostRuntime, bank: &B) -> anyhow::Result<()> {
     let option = Line {
         month: 0,
@@ -85,121 +83,21 @@ fn blocked<B: Bank>(rt: &impl Print, bank: &B, deck: &Deck) -> io::Result<()> {
             cost: -16_240_000_000,
         },
     ];
-    let orders = open_orders();
+    let orders = [Open {
+        line: 0,
+        left: 1,
+        limit: 95_000,
+    }];
     match margin_of(bank, deck, &positions, &orders) {
         None => rt.println("no account may have such a book"),
         Some(answer) => {
-            answers(rt, deck, &answer)?;
-            world(rt, deck, orders.len(), &answer.world)
+            let amount = answer.amount;
+            let (worst, point) = answer.worsts[0];
+            println!(rt;
+                "blocked {amount} kopecks: family 0 comes to {worst} grains at point {point}"
+            )
         }
     }
-}
-
-// A buy of one near future below its price, a sell of one above it, and a buy of two options at almost nothing.
-fn open_orders() -> [Open; 3] {
-    [
-        Open {
-            line: 0,
-            left: 1,
-            limit: 95_000,
-        },
-        Open {
-            line: 0,
-            left: -1,
-            limit: 105_000,
-        },
-        Open {
-            line: 2,
-            left: 2,
-            limit: 100,
-        },
-    ]
-}
-
-// The margin, what each family loses and where, and the family that loses most.
-fn answers(rt: &impl Print, deck: &Deck, answer: &Blocked) -> io::Result<()> {
-    let amount = answer.amount;
-    println!(rt; "blocked: {amount} kopecks")?;
-    for f in 0..deck.families.len() {
-        let loss = answer.losses[f];
-        let (worst, point) = answer.worsts[f];
-        println!(rt;
-            "  family {f} loses {loss} grains: it comes to {worst} at point {point}, its worst"
-        )?;
-    }
-    let costliest = answer.costliest;
-    println!(rt; "  family {costliest} loses most")
-}
-
-// A world, choice by choice, as far as there are cards and orders.
-fn world(rt: &impl Print, deck: &Deck, orders: usize, chosen: &World) -> io::Result<()> {
-    println!(rt; "the world handed out, which loses as much as any:")?;
-    for f in 0..deck.families.len() {
-        at_point(rt, "family", f, chosen.families[f])?;
-    }
-    for b in 0..deck.baskets.len() {
-        at_point(rt, "basket", b, chosen.baskets[b])?;
-    }
-    for m in 0..deck.months.len() {
-        month(rt, m, chosen.months[m])?;
-    }
-    for (i, counted) in chosen.orders.iter().enumerate().take(orders) {
-        order(rt, i, counted)?;
-    }
-    Ok(())
-}
-
-fn at_point(rt: &impl Print, what: &str, number: usize, point: Option<usize>) -> io::Result<()> {
-    match point {
-        Some(p) => println!(rt; "  {what} {number} at point {p}"),
-        None => println!(rt; "  {what} {number} left out"),
-    }
-}
-
-fn month(rt: &impl Print, m: usize, kept: Option<Kept>) -> io::Result<()> {
-    match kept {
-        None => println!(rt; "  month {m} left out"),
-        Some(columns) => {
-            let volatility = column(columns.volatility);
-            let rate = column_or(columns.rate, "rates unmoved");
-            let twist = column_or(columns.twist, "no twist");
-            println!(rt; "  month {m} with {volatility}, {rate}, {twist}")
-        }
-    }
-}
-
-fn column(k: usize) -> &'static str {
-    if k < COLUMNS.len() {
-        COLUMNS[k]
-    } else {
-        "no column"
-    }
-}
-
-fn column_or(k: Option<usize>, none: &'static str) -> &'static str {
-    match k {
-        Some(k) => column(k),
-        None => none,
-    }
-}
-
-// In which of its month's cells an order counts.
-fn order(rt: &impl Print, i: usize, counted: &Counted) -> io::Result<()> {
-    if !(counted.volatility || counted.rate || counted.twist) {
-        return println!(rt; "  order {i} counts in no cell");
-    }
-    print!(rt; "  order {i} counts in its month's cells:")?;
-    word_if(rt, counted.volatility, " volatility")?;
-    word_if(rt, counted.rate, " rates")?;
-    word_if(rt, counted.twist, " twist")?;
-    println!(rt; "")
-}
-
-fn word_if(rt: &impl Print, said: bool, word: &str) -> io::Result<()> {
-    if said {
-        print!(rt; "{word}")?;
-    }
-    Ok(())
 }
 
 fn futures() -> [Line; 2] {
