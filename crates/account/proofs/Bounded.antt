@@ -27,7 +27,7 @@ use Rattle.account.specs.Orders.{signed, left_after, fill_state, state_after, or
 use Rattle.account.specs.declared.call.Call.{Call}
 use Rattle.account.specs.declared.call.Call.TheVariants.{Place, Cancel, Fill, Deposit, Withdraw, Margin}
 use Rattle.terms.specs.Checks.{unless}
-use Rattle.account.specs.Account.{State, Answer, StillLeft, book_of, quantity_fits, price_fits, amount_fits, most_collateral, covered, with_collateral, new_order, placed, filled, cancelled, order_checks, fill_checks, on_order, bound_checks, checks, step, run}
+use Rattle.account.specs.Account.{State, Answer, StillLeft, book_of, quantity_fits, price_fits, amount_fits, most_collateral, covered, with_collateral, new_order, placed, filled, cancelled, order_checks, fill_checks, on_order, bound_checks, step, run}
 use Rattle.account.specs.Begin.{held_at, nothing, put_in, first_state, begin_checks, begin}
 use Rattle.account.specs.Runs.{NoneRefuses}
 use Rattle.account.specs.Bounds.{OrderInBounds, Ascending, LineInBounds, InBoundsIsSmall, InBounds, summed, dearest, BoundedAfterAnyCalls}

@@ -1,5 +1,5 @@
 -- What every state has that an account comes to from its begin: a position for each line, futures whose rates do not fall, and a margin that the collateral covers.
-use Rattle.std.proofs.Common.{◌≡◌, ℕ, ◌+◌, ◌-◌, ◌≤◌, true, false, ◌||◌, leb, List, [], ◌∷◌, length, set, replicate, ℤ, pos, nat_abs, ◌≤ℤ◌, Some, None, Ok, Option, refl, ◌∙◌, subst, ⊎_elim, le_trans, arith}
+use Rattle.std.proofs.Common.{◌≡◌, ℕ, ◌+◌, ◌-◌, ◌≤◌, true, ◌||◌, leb, List, [], ◌∷◌, length, set, replicate, ℤ, pos, nat_abs, ◌≤ℤ◌, Some, None, Ok, Option, refl, ◌∙◌, subst, ⊎_elim, le_trans, arith}
 use Rattle.std.proofs.lemmas.List.{length-set, length-replicate}
 use Rattle.std.proofs.lemmas.Bool.{and_parts, or_cases, leb-true, ltb-true, lt-leb, both_ways, false≢true}
 use Rattle.terms.specs.Cards.{future_fits}

@@ -1,4 +1,6 @@
 // The account: what it holds, the calls that it takes, and what holds of it after any string of calls.
+#![tactic(auto)]
+
 ghost use Rattle.account.specs.Bounds.{BoundedAfterAnyCalls, InBoundsIsSmall};
 ghost use Rattle.account.specs.Figures.{Figures};
 ghost use Rattle.account.specs.RefusedCalls.{RefusedCalls};

@@ -1,4 +1,6 @@
 // Price banks: each answers the price of one contract of a line in each scenario cell.
+#![tactic(auto)]
+
 pub mod bank;
 pub mod pair;
 pub mod scale;

@@ -1,3 +1,5 @@
+#![tactic(auto)]
+
 // Tests of the banks: every refusal of every constructor, on both sides of each bound, with its number and place.
 #[cfg(test)]
 mod tests {

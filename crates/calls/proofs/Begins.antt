@@ -1,5 +1,5 @@
 -- How an account begins, by what is told of its cards.
-use Rattle.std.proofs.Common.{◌≡◌, ℕ, Bool, true, false, List, [], ◌∷◌, ℤ, nat_abs, is_ok, Some, None, Ok, Err, Option, Result, sym, refl, ap, ◌∙◌, subst, arith}
+use Rattle.std.proofs.Common.{◌≡◌, ℕ, List, [], ◌∷◌, ℤ, nat_abs, is_ok, Some, None, Ok, Err, Option, Result, refl, ap, ◌∙◌, arith}
 use Rattle.terms.specs.Checks.{unless, refused_at, decided}
 use Rattle.terms.specs.declared.cards.Held.{Held}
 use Rattle.terms.specs.declared.fault.Fault.{Fault}
@@ -10,7 +10,7 @@ use Rattle.banks.specs.Meanings.{Meaning}
 use Rattle.margin.specs.Book.{Cards}
 use Rattle.deck.specs.Decks.{DeckOutcome}
 use Rattle.deck.specs.Judgements.{first_unfit, counted, cards_judged}
-use Rattle.account.specs.Account.{State, amount_fits, covered}
+use Rattle.account.specs.Account.{amount_fits, covered}
 use Rattle.account.specs.Begin.{first_state, begin}
 use Rattle.calls.specs.declared.accounts.Account.{Account}
 use Rattle.calls.specs.Begun.{BeginOutcome, with_cards}

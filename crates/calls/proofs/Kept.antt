@@ -1,5 +1,5 @@
 -- What the invariant of an account says of its state.
-use mathlib.Core.Logic.{∥∥₁_elim, ∥∥₁_map}
+use mathlib.Core.Logic.{∥∥₁_elim}
 use Rattle.banks.specs.Meanings.{Meaning}
 use Rattle.account.specs.Account.{State}
 use Rattle.account.specs.Bounds.{InBounds}

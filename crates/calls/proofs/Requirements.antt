@@ -1,21 +1,14 @@
 -- What margin answers, from what is blocked; and that it is safe.
-use Rattle.std.proofs.Common.{◌≡◌, ℕ, zero, suc, ◌≤◌, true, false, ltb, List, [], ◌∷◌, ◌++◌, length, get_or, ℤ, pos, Some, None, Ok, Option, Result, sym, refl, ap, ◌∙◌, subst, ap₂, arith}
-use Rattle.terms.specs.declared.cards.Held.{Held}
-use Rattle.terms.specs.declared.refusal.Refusal.{Refusal}
-use Rattle.banks.specs.Meanings.{Meaning}
-use Rattle.margin.specs.Book.{Cards}
+use Rattle.std.proofs.Common.{◌≡◌, ℕ, zero, suc, ◌≤◌, true, false, ltb, List, [], ◌∷◌, length, get_or, ℤ, pos, Some, None, Option, sym, refl, ap, ◌∙◌, subst, ap₂, arith}
 use Rattle.margin.specs.Worlds.{World, listed_world}
 use Rattle.margin.specs.Layers.{family_loss, family_worst}
 use Rattle.cover.specs.declared.Blocked.{Blocked}
-use Rattle.account.specs.declared.call.Call.{Call}
 use Rattle.account.specs.Account as account
 use Rattle.account.specs.Account.{State, book_of, cells_of, last_of, each, requirement, run}
-use Rattle.account.specs.Begin.{begin}
 use Rattle.account.specs.Runs.{SafelyMargined}
 use Rattle.account.proofs.Kept.{run_keeps, begin_keeps}
 use Rattle.account.proofs.Safe.{kept_is_safe}
 use Rattle.calls.specs.declared.answer.FamilyWorst.{FamilyWorst}
-use Rattle.calls.specs.declared.answer.Requirement.{Requirement}
 use Rattle.calls.specs.Answers.{families_of, requirement_of}
 use Rattle.calls.specs.Blockings.{BlockedFor}
 use Rattle.calls.specs.Safety.{SafeIfReached}

@@ -1,9 +1,8 @@
 -- A run, call by call from its front.
-use Rattle.std.proofs.Common.{◌≡◌, ℕ, ◌+◌, ◌<◌, List, [], ◌∷◌, ◌++◌, map, length, get_or, take, Ok, Result, sym, refl, ap, ◌∙◌, subst, ap₂}
+use Rattle.std.proofs.Common.{◌≡◌, ℕ, ◌+◌, ◌<◌, List, [], ◌∷◌, ◌++◌, map, length, get_or, take, Result, refl, ap, ◌∙◌, ap₂}
 use Rattle.std.proofs.lemmas.List.{take_more, append_assoc, map-append}
 use Rattle.terms.specs.declared.refusal.Refusal.{Refusal}
 use Rattle.account.specs.declared.call.Call.{Call}
-use Rattle.account.specs.declared.call.Call.TheVariants.{Margin}
 use Rattle.account.specs.Account as account
 use Rattle.account.specs.Account.{State, Required, requirement, step, run, answers}
 use Rattle.calls.specs.declared.answer.Answer.{Answer}

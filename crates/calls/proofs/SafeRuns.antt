@@ -1,5 +1,5 @@
 -- Every margin answered in a run is safe.
-use Rattle.std.proofs.Common.{◌≡◌, ℕ, true, List, [], ◌∷◌, ◌++◌, ℤ, nat_abs, is_ok, Some, None, Ok, Option, Result, sym, refl, ap, ◌∙◌, subst, arith}
+use Rattle.std.proofs.Common.{◌≡◌, ℕ, true, List, [], ◌∷◌, ◌++◌, ℤ, nat_abs, is_ok, Some, None, Ok, Option, Result, refl, ap, ◌∙◌, arith}
 use Rattle.terms.specs.Checks.{unless, refused_at, decided}
 use Rattle.terms.specs.declared.cards.Held.{Held}
 use Rattle.terms.specs.declared.refusal.Refusal.{Refusal}
@@ -9,9 +9,8 @@ use Rattle.margin.specs.Book.{Cards}
 use Rattle.deck.specs.Judgements.{first_unfit, counted, cards_judged}
 use Rattle.account.specs.declared.call.Call.{Call}
 use Rattle.account.specs.declared.call.Call.TheVariants.{Margin}
-use Rattle.account.specs.Account.{State, Answer, Required, Requirement, amount_fits, covered, requirement, step, run, answers}
+use Rattle.account.specs.Account.{State, Answer, Required, amount_fits, covered, requirement, step, run, answers}
 use Rattle.account.specs.Begin.{first_state, begin}
-use Rattle.account.specs.Runs.{SafelyMargined}
 use Rattle.account.proofs.Kept.{run_keeps, begin_keeps}
 use Rattle.account.proofs.Safe.{kept_is_safe}
 use Rattle.calls.specs.Safety.{EveryMarginIsSafe}

@@ -1,10 +1,9 @@
 -- How large the numbers of an account in bounds are at every place, those beyond its lists being 0.
-use Rattle.std.proofs.Common.{◌≡◌, ℕ, zero, suc, ◌<◌, ◌≤◌, Bool, List, [], ◌∷◌, map, length, get_or, ℤ, pos, nat_abs, sym, refl, ap, subst, ⊎_elim, zero-le, arith}
+use Rattle.std.proofs.Common.{◌≡◌, ℕ, zero, suc, ◌<◌, ◌≤◌, List, [], ◌∷◌, map, length, get_or, nat_abs, sym, refl, ap, subst, ⊎_elim, zero-le, arith}
 use Rattle.std.specs.List.{AllByRecursion as All}
 use Rattle.std.proofs.lemmas.List.{get_or_past}
 use Rattle.std.proofs.lemmas.Bool.{cases_lt}
 use Rattle.margin.specs.declared.book.Position.{Position}
-use Rattle.margin.specs.declared.book.Open.{Open}
 use Rattle.cells.specs.Empty.{no_position, no_order}
 use Rattle.account.specs.declared.orders.Order.{Order}
 use Rattle.account.specs.Account.{State}

@@ -9,8 +9,6 @@ use Rattle.margin.specs.declared.book.Open.{Open}
 use Rattle.account.specs.declared.call.Call.{Call}
 use Rattle.account.specs.declared.orders.Order.{Order}
 use Rattle.account.specs.declared.orders.OrderState.TheVariants.{Untouched}
-use Rattle.account.specs.declared.orders.Event.{Event}
-use Rattle.account.specs.declared.orders.Event.TheVariants.{Filled, Cancelled}
 use Rattle.margin.specs.Book.{Book, names}
 use Rattle.margin.specs.LeastCover.{margin}
 use Rattle.cells.specs.Empty.{no_order}

@@ -1,5 +1,5 @@
 -- What holds of every margin that an account answers, whatever calls it met since it began.
-use Rattle.std.specs.Prelude.{◌≡◌, List, [], ◌∷◌, ◌++◌, ℤ, Ok, Result}
+use Rattle.std.specs.Prelude.{◌≡◌, List, ◌∷◌, ◌++◌, ℤ, Ok, Result}
 use Rattle.terms.specs.declared.cards.Held.{Held}
 use Rattle.terms.specs.declared.refusal.Refusal.{Refusal}
 use Rattle.banks.specs.Meanings.{Meaning}

@@ -1,5 +1,5 @@
 -- The state of an account, put together from what a program keeps.
-use Rattle.std.specs.Prelude.{ℕ, List, vec_items}
+use Rattle.std.specs.Prelude.{ℕ, List}
 use Rattle.banks.specs.Meanings.{Meaning}
 use Rattle.margin.specs.declared.book.Position.{Position}
 use Rattle.margin.specs.Book.{Cards}

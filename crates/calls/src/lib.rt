@@ -1,4 +1,6 @@
 // The account as a program: how it begins, the six calls, and runs of them.
+#![tactic(auto)]
+
 pub mod accounts;
 pub mod answer;
 mod blocked;

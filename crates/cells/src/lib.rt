@@ -1,5 +1,7 @@
 // What fills a month's cells: what the positions and open orders of its lines come to in every scenario, less charges; and in
 // which cells of a world each open order is counted.
+#![tactic(auto)]
+
 ghost use Rattle.std.specs.Prelude.{◌≡◌};
 ghost use Rattle.margin.specs.Cells.{cells as cells_of_book};
 ghost use Rattle.margin.specs.Worlds.{nowhere};

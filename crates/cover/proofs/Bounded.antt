@@ -1,5 +1,5 @@
 -- The sizes of small positions and orders, at every place.
-use Rattle.std.proofs.Common.{◌≡◌, ℕ, ◌<◌, ◌≤◌, true, false, not, ◌&&◌, leb, List, length, get_or, pos, negsuc, nat_abs, is_some, Some, None, Option, sym, refl, subst, ⊎_elim, zero-le}
+use Rattle.std.proofs.Common.{◌≡◌, ℕ, ◌<◌, ◌≤◌, true, not, ◌&&◌, leb, List, length, get_or, pos, negsuc, nat_abs, is_some, Some, None, Option, sym, refl, subst, ⊎_elim, zero-le}
 use Rattle.std.proofs.lemmas.List.{get_or_past}
 use Rattle.std.proofs.lemmas.Bool.{and_parts, leb-true, cases_lt, false≢true}
 use Rattle.terms.specs.Cards.{within}

@@ -1,5 +1,7 @@
 // The margin of a book: what must be blocked, from a bank of any make, judged cards, positions and open orders; and a world in
 // which the book loses that much.
+#![tactic(auto)]
+
 ghost use Rattle.std.specs.Prelude.{◌≡◌, ℕ, ◌^◌, ◌≤◌, List, [], ◌∷◌, length, pos, None, slice_index_or, unsigned_abs};
 ghost use Rattle.std.specs.Int.{int_min};
 ghost use Rattle.margin.specs.Book.{over_lines};

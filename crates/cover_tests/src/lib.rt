@@ -1,4 +1,5 @@
 // Tests of the margin through the code: figures and worlds of small books, worked by hand.
+#![tactic(auto)]
 
 #[cfg(test)]
 mod tests {

@@ -1,5 +1,5 @@
 -- From what a run is told to what a day is told.
-use Rattle.std.proofs.Common.{◌≡◌, ℕ, ◌≤◌, Bool, true, false, eqb, List, ◌++◌, map, length, take, drop, ℤ, Ok, Err, vec_items, Result, Vec, sym, refl, ap, ◌∙◌, subst, ap₂}
+use Rattle.std.proofs.Common.{◌≡◌, ℕ, ◌≤◌, Bool, true, false, eqb, List, ◌++◌, length, take, drop, ℤ, Ok, Err, Result, Vec, sym, ap, ◌∙◌, subst, ap₂}
 use Rattle.std.proofs.lemmas.List.{take-append-drop, length-take-le}
 use Rattle.std.specs.declared.alloc.Global.{Global}
 use Rattle.terms.specs.declared.cards.Line.{Line}
@@ -9,12 +9,9 @@ use Rattle.terms.specs.declared.refusal.Refusal.{Refusal}
 use Rattle.banks.specs.Meanings.{Meaning}
 use Rattle.margin.specs.Book.{Cards}
 use Rattle.account.specs.declared.call.Call.{Call}
-use Rattle.account.specs.Account as account
 use Rattle.account.specs.Account.{State, answers}
 use Rattle.account.specs.Begin.{begin}
 use Rattle.calls.specs.declared.answer.Answer.{Answer}
-use Rattle.calls.specs.Answers.{told_of}
-use Rattle.calls.specs.Safety.{EveryMarginIsSafe}
 use Rattle.calls.specs.Told.{RunOutcome, SafeOutcome}
 use Rattle.load.specs.Days.{Day}
 use Rattle.load.specs.Loading.{cards_of, next}

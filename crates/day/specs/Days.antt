@@ -1,5 +1,5 @@
 -- What the account of a day answers: its bank, its calls, and how they run.
-use Rattle.std.specs.Prelude.{◌≡◌, ℕ, true, false, List, [], ◌∷◌, ◌++◌, map, length, ℤ, pos, Ok, Err, Result, ◌==◌, unsigned_abs}
+use Rattle.std.specs.Prelude.{ℕ, true, false, List, [], ◌∷◌, ◌++◌, map, length, pos, Ok, Result, ◌==◌, unsigned_abs}
 use Rattle.terms.specs.Halves.{half_size}
 use Rattle.terms.specs.declared.refusal.Refusal.{Refusal}
 use Rattle.banks.specs.Meanings.{Meaning}
@@ -9,7 +9,7 @@ use Rattle.banks.specs.Layers.{pair_made}
 use Rattle.kinds.specs.declared.Order.{Order}
 use Rattle.account.specs.declared.call.Call.{Call}
 use Rattle.account.specs.declared.call.Call.TheVariants.{Place, Margin}
-use Rattle.account.specs.Account.{State, Answer, answers}
+use Rattle.account.specs.Account.{Answer, answers}
 use Rattle.account.specs.Begin.{begin}
 use Rattle.load.specs.Days.{Day}
 use Rattle.load.specs.Loading.{cards_of, next, wanted, loading}

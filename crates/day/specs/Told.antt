@@ -1,5 +1,5 @@
 -- What the caller of a session is told.
-use Rattle.std.specs.Prelude.{◌≡◌, ℕ, List, map, nat_abs, Ok, Err, vec_items, Result, Vec}
+use Rattle.std.specs.Prelude.{◌≡◌, List, map, Ok, Err, vec_items, Result, Vec}
 use Rattle.std.specs.declared.alloc.Global.{Global}
 use Rattle.terms.specs.declared.fault.Fault.{Fault}
 use Rattle.terms.specs.declared.fault.Fault.TheVariants.{Refused, Memory}

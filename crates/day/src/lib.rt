@@ -1,4 +1,6 @@
 // A session file's day: from its bytes to what its account answers.
+#![tactic(auto)]
+
 mod calling;
 mod filled;
 mod lent;

@@ -1,3 +1,5 @@
+#![tactic(auto)]
+
 // Examples for the reader of forms.
 #[cfg(test)]
 mod readings;

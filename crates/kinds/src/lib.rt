@@ -1,4 +1,6 @@
 // The kinds of form that fill a record of their own, each with its head, its inner forms and their fields.
+#![tactic(auto)]
+
 ghost use Rattle.std.specs.Prelude.{◌≡◌, refl, [], ◌∷◌, pos, negsuc, codes};
 ghost use Rattle.forms.specs.declared.field.Allowed.TheVariants.{Any, Between, HalfSize};
 ghost use Rattle.kinds.specs.Formats.{grid_format};

@@ -1,4 +1,6 @@
 // The layers from the months' cells to the margin and the world handed out, worked out as they are defined.
+#![tactic(auto)]
+
 pub mod amounts;
 pub mod baskets;
 pub mod families;

@@ -1,5 +1,5 @@
 -- Numbers that a field or a name takes have at most 15 digits.
-use Rattle.std.proofs.Common.{◌≡◌, ℕ, zero, suc, ◌+◌, ◌/◌, ◌%◌, ◌<◌, ◌≤◌, Bool, true, false, ltb, List, [], ◌∷◌, ◌++◌, take, drop, ℤ, pos, negsuc, ◌≤ℤ◌, refl, div-le_self, arith, lit<}
+use Rattle.std.proofs.Common.{◌≡◌, ℕ, zero, suc, ◌+◌, ◌/◌, ◌%◌, ◌≤◌, Bool, true, false, ltb, List, [], ◌∷◌, ◌++◌, take, drop, ℤ, pos, negsuc, ◌≤ℤ◌, refl, div-le_self, arith, lit<}
 use native.Mathlib.Nat.{mod-le}
 use lib.Signed.{le_z, lt_z}
 use Rattle.std.specs.List.{AllByRecursion as All}

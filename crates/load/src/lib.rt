@@ -1,4 +1,6 @@
 // Reading a session file into lists that the caller lends.
+#![tactic(auto)]
+
 mod checks;
 pub mod lists;
 pub mod loading;

@@ -1,3 +1,5 @@
+#![tactic(auto)]
+
 // Examples for loading a session file.
 #[cfg(test)]
 mod changes;

@@ -4,7 +4,7 @@ use lib.Signed.{≤ℤ_refl}
 use Rattle.std.specs.Int.{int_min}
 use Rattle.std.proofs.lemmas.Int.{ints, clamps}
 use Rattle.margin.specs.declared.choice.Kept.{Kept}
-use Rattle.margin.specs.Sums.{total, least, least3}
+use Rattle.margin.specs.Sums.{total, least3}
 use Rattle.margin.specs.Book.{Cards, netted_family, netted_basket, window_of, in_family, over_months}
 use Rattle.margin.specs.Layers.{window_start, window_end, volatility_result, rate_result, twist_result, curve_result, month_result, netted_column, netted_basket_result, half_basket_result, basket_result, worst_within, netted_family_result, half_family_result, family_result, family_worst}
 use Rattle.margin.specs.Worlds.{World, AtMostOne, Curves, HalfMonth, NettedMonth, Months, BasketAt, FamilyAt, IsWorld, column_taken, month_taken, basket_taken, family_taken, taken}

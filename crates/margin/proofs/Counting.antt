@@ -1,6 +1,5 @@
 -- In which cells an order of the book is counted: by its place in the book, and by the order itself.
 use Rattle.std.proofs.Common.{◌≡◌, ℕ, Bool, ℤ, Some, None, Option, refl, ap₂}
-use Rattle.margin.specs.declared.choice.Counted.{Counted}
 use Rattle.margin.specs.declared.choice.Kept.{Kept}
 use Rattle.margin.specs.Book.{Cards, Book, order}
 use Rattle.margin.specs.Cells.{cells}

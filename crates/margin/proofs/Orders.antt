@@ -1,12 +1,12 @@
 -- What counting an order or not does to a cell: the margin's cells are lowest, and the world handed out has them in each cell that it takes.
-use Rattle.std.proofs.Common.{◌≡◌, ℕ, ◌≤◌, Bool, true, false, ◌&&◌, T, eqb, ltb, leb, length, ℤ, pos, ◌-ℤ◌, ◌≤ℤ◌, Some, None, Option, sym, refl, ap, ◌∙◌, subst, inl, inr, arith, eqb→eq}
+use Rattle.std.proofs.Common.{◌≡◌, ℕ, ◌≤◌, Bool, true, false, ◌&&◌, T, ltb, leb, length, ℤ, pos, ◌-ℤ◌, ◌≤ℤ◌, Some, None, Option, sym, refl, ap, ◌∙◌, subst, inl, inr, arith, eqb→eq}
 use lib.Signed.{lt_z, ≤ℤ_refl}
 use Rattle.std.specs.Int.{int_min}
 use Rattle.std.proofs.lemmas.Int.{ints, clamps}
 use Rattle.std.proofs.lemmas.Bool.Decides.{nat_tests}
 use Rattle.margin.specs.declared.choice.Kept.{Kept}
 use Rattle.margin.specs.declared.choice.Counted.{Counted}
-use Rattle.margin.specs.Book.{Cards, Book, named, basket, month, line, order, of_line, in_month, in_basket, position, over_lines}
+use Rattle.margin.specs.Book.{Cards, Book, named, month, line, order, of_line, in_month, in_basket, position, over_lines}
 use Rattle.margin.specs.Cells.{position_result, order_result, charged, gridded, line_cell, month_cell, cells}
 use Rattle.margin.specs.Worlds.{World, AtMostOne, HalfMonth, column_taken, month_taken, basket_taken, family_taken, taken, counted_in, world_cells}
 use Rattle.margin.specs.HandedOut.{up_to, basket_point, month_kept, choices, order_loses, order_loses_in, order_counted_at, counted_of, handed_out}

@@ -1,5 +1,5 @@
 -- The margins of small books, worked out by the definitions.
-use Rattle.std.specs.Prelude.{◌≡◌, ℕ, ◌*◌, true, false, List, [], ◌∷◌, ℤ, pos, negsuc, ◌+ℤ◌, ◌-ℤ◌, ◌*ℤ◌, neg_ℤ, ◌==◌, nat_le}
+use Rattle.std.specs.Prelude.{◌≡◌, ℕ, true, false, List, [], ◌∷◌, ℤ, pos, negsuc, ◌+ℤ◌, ◌-ℤ◌, ◌*ℤ◌, neg_ℤ, ◌==◌, nat_le}
 use Rattle.terms.specs.declared.cards.Family.{Family}
 use Rattle.terms.specs.declared.cards.Line.{Line}
 use Rattle.margin.specs.declared.book.Position.{Position}

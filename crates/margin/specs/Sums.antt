@@ -1,5 +1,5 @@
 -- Adding up over numbers, and the least of a row with its first place. Every layer from the cells to the margin is made of these.
-use Rattle.std.specs.Prelude.{ℕ, zero, suc, ◌+◌, Bool, true, false, ℤ, pos, ◌+ℤ◌, Some, int_le}
+use Rattle.std.specs.Prelude.{ℕ, zero, suc, Bool, true, false, ℤ, pos, ◌+ℤ◌, Some, int_le}
 use Rattle.order.specs.Orders.{lesser_of}
 
 -- the sum of what each number below n gives, over those that pass the test

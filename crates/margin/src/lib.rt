@@ -1,4 +1,6 @@
 // From scenario cells to the margin of a book: what every layer comes to, the worlds that the margin covers, and the proof that it covers them with nothing to spare.
+#![tactic(auto)]
+
 ghost use Rattle.margin.specs.Easing.{CancelNeverRaisesTheMargin, FillNeverRaisesTheMargin, LastFillNeverRaisesTheMargin};
 ghost use Rattle.margin.specs.Figures.{Figures};
 ghost use Rattle.margin.specs.LeastCover.{MarginIsTheLeastCover, MarginFallsAsCellsRise};

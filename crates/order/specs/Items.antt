@@ -1,5 +1,5 @@
 -- The two kinds of item that are picked from, each with its total order.
-use Rattle.std.specs.Prelude.{◌≡◌, ℕ, ◌<◌, ◌≤◌, Bool, true, false, ◌&&◌, ◌||◌, ◌⊎◌, ℤ, pos, negsuc, ◌==◌, int_le, nat_le, nat_lt, refl}
+use Rattle.std.specs.Prelude.{◌≡◌, ℕ, ◌<◌, ◌≤◌, Bool, true, ◌&&◌, ◌||◌, ◌⊎◌, ℤ, pos, negsuc, ◌==◌, int_le, nat_le, nat_lt, refl}
 use Rattle.std.proofs.Common.{ap, sym, ◌∙◌, inl, inr, ⊎_elim, le_trans, le_antisymm, le_of_lt, arith}
 use Rattle.std.proofs.lemmas.Bool.{leb-true, le-leb, cases_lt, ltb-true, lt-ltb, eqb-true, eq-eqb, cases_order, false≢true, or_left, or_right, or_cases, and_from, and_parts}
 use Rattle.order.specs.Orders.{TotalOrder}

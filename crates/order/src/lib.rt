@@ -1,4 +1,6 @@
 // Picking: one search for the least item of a list and its first place, over every kind of item that has a total order.
+#![tactic(auto)]
+
 ghost use Rattle.std.specs.Prelude.{◌≡◌, Bool, int_le};
 ghost use Rattle.order.specs.Items.{integers_ordered, costlier, family_losses_ordered};
 ghost use Rattle.order.specs.Orders.{TotalOrder, lesser_of, first_least, IsFirstLeast};

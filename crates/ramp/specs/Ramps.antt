@@ -1,5 +1,5 @@
 -- A ramp: one line whose price rises by a tick from point to point. And what a pile of layers over ramps comes to.
-use Rattle.std.specs.Prelude.{ℕ, ◌+◌, ◌*◌, Bool, true, false, ℤ, pos, ◌-ℤ◌, Ok, Err, Result, nat_lt}
+use Rattle.std.specs.Prelude.{ℕ, ◌+◌, ◌*◌, true, false, ℤ, pos, ◌-ℤ◌, Ok, Err, Result, nat_lt}
 use Rattle.terms.specs.Halves.{half_size}
 use Rattle.terms.specs.declared.refusal.Refusal.{Refusal}
 use Rattle.banks.specs.Layers.{pair_made, scale_made}

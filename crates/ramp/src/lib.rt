@@ -1,5 +1,7 @@
 // A bank of another make, written outside the banks' own crate: what a broker's engineer writes to bring prices of their own.
 // It gives the price that stands in each cell and answers the four questions; layers and generic code then take it as any other bank.
+#![tactic(auto)]
+
 ghost use Rattle.std.specs.Prelude.{◌≡◌, ◌+◌, ◌*◌, ◌<◌, ◌≤◌, pos};
 ghost use Rattle.banks.specs.Layers.{pair_meaning, scale_meaning};
 ghost use Rattle.banks.specs.Meanings.{exactly};

@@ -1,6 +1,8 @@
 // Prints the scenario sheet of two futures and an option, and of the same option in a contract of twice the size, and what must
 // be blocked for a calendar spread of the futures. The futures come from their cards, the option from a table of prices, and the
 // whole is one bank.
+#![tactic(auto)]
+
 use banks::bank::Bank;
 use banks::pair::Pair;
 use banks::scale::Scale;

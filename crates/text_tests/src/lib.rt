@@ -1,3 +1,5 @@
+#![tactic(auto)]
+
 // Examples for the number reader and the shape of the text.
 #[cfg(test)]
 mod numbers;

@@ -1,4 +1,4 @@
-use Rattle.std.proofs.Common.{◌≡◌, ◌≤◌, drop}
+use Rattle.std.proofs.Common.{◌≡◌, drop}
 use Rattle.order.specs.Orders.{least_from}
 use Rattle.order.proofs.least.Given as goal
 

@@ -1,6 +1,6 @@
-use Rattle.std.proofs.Common.{◌≡◌, ℕ, ℤ, nat_abs, Ok, Err, sym, ap, ◌∙◌, subst, w64, to_z, of_z}
+use Rattle.std.proofs.Common.{◌≡◌, ℕ, ℤ, Ok, Err, subst, w64, to_z, of_z}
 use Rattle.std.proofs.lemmas.Int.{to_z-of_z}
-use Rattle.deck.specs.Decks.{deck_cards, given_cards, DeckOutcome}
+use Rattle.deck.specs.Decks.{given_cards, DeckOutcome}
 use Rattle.deck.specs.Judgements.{cards_judged}
 use Rattle.margin.specs.Book.{Cards}
 use Rattle.calls.specs.Begun.{BeginOutcome, with_cards}

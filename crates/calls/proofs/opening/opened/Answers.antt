@@ -1,4 +1,4 @@
-use Rattle.std.proofs.Common.{◌≡◌, sym, subst, arith}
+use Rattle.std.proofs.Common.{sym, subst, arith}
 use Rattle.deck.specs.Decks.{deck_cards}
 use Rattle.account.specs.Bounds.{InBounds}
 use Rattle.account.proofs.Bounded.{first_bounded}

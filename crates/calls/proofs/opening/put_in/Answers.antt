@@ -1,9 +1,9 @@
-use Rattle.std.proofs.Common.{◌≡◌, ℕ, ◌+◌, ◌<◌, List, length, get_or, take, set, vec_items, sym, refl, ap, ◌∙◌, ap₂, arith, w64, SFits, rules}
+use Rattle.std.proofs.Common.{List, length, get_or, take, set, vec_items, sym, refl, ap, ◌∙◌, ap₂, arith, w64, SFits, rules}
 use Rattle.std.proofs.lemmas.List.{take_all}
 use Rattle.std.proofs.lemmas.Int.{to_z-of_z}
 use Rattle.terms.specs.declared.cards.Held.{Held}
 use Rattle.margin.specs.declared.book.Position.{Position}
-use Rattle.account.specs.Begin.{held_at, put_in}
+use Rattle.account.specs.Begin.{put_in}
 use Rattle.account.proofs.Kept.{put_in_length}
 use Rattle.account.proofs.Bounded.{one_of}
 use Rattle.calls.proofs.HeldRecords.{none_held, sizes_at, put_in_more}

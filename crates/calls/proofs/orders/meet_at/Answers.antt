@@ -1,4 +1,4 @@
-use Rattle.std.proofs.Common.{◌≡◌, suc, ◌≤◌, List, ◌++◌, length, get_or, take, drop, set, nat_abs, vec_items, sym, refl, ap, ◌∙◌}
+use Rattle.std.proofs.Common.{◌≡◌, suc, ◌≤◌, ◌++◌, get_or, take, drop, nat_abs, vec_items, ap, ◌∙◌}
 use Rattle.std.proofs.lemmas.List.{get_or_read, get_or-set_same}
 use Rattle.account.specs.declared.orders.Order.{Order}
 use Rattle.account.specs.declared.orders.Event.{Event}

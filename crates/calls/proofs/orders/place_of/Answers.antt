@@ -1,4 +1,3 @@
-use Rattle.std.proofs.Common.{◌∙◌}
 use Rattle.std.proofs.lemmas.Int.{to_z-of_z}
 use Rattle.calls.proofs.Places.{place_is}
 use Rattle.calls.proofs.orders.place_of.Goals as goal

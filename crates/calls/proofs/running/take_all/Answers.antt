@@ -1,4 +1,4 @@
-use Rattle.std.proofs.Common.{◌≡◌, List, [], ◌++◌, map, length, get_or, take, pos, vec_items, Result, sym, refl, ap, ◌∙◌, arith}
+use Rattle.std.proofs.Common.{List, ◌++◌, map, get_or, take, pos, vec_items, Result, sym, refl, ap, ◌∙◌, arith}
 use Rattle.std.proofs.lemmas.List.{append-nil, take_all}
 use Rattle.terms.specs.declared.refusal.Refusal.{Refusal}
 use Rattle.account.specs.declared.call.Call.{Call}

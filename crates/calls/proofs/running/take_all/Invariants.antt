@@ -1,4 +1,4 @@
-use Rattle.std.proofs.Common.{◌≡◌, ◌+◌, ◌≤◌, ◌++◌, map, length, take, vec_items, vec_len, vec_capacity}
+use Rattle.std.proofs.Common.{◌≡◌, ◌+◌, ◌++◌, map, take, vec_items, vec_len, vec_capacity}
 use Rattle.account.specs.Account.{run, answers}
 use Rattle.calls.specs.Accounts.{state_of}
 use Rattle.calls.specs.Answers.{told_of}

@@ -1,4 +1,4 @@
-use Rattle.std.proofs.Common.{◌*ℤ◌, ap, ◌∙◌, lit<, lit≤, w64, SFits}
+use Rattle.std.proofs.Common.{◌*ℤ◌, ap, ◌∙◌, lit<, lit≤}
 use Rattle.std.proofs.lemmas.Int.{to_z-of_z}
 use Rattle.cells.proofs.Times as times
 use Rattle.calls.proofs.trades.paid.Goals as goal

@@ -1,4 +1,4 @@
-use Rattle.std.proofs.Common.{◌≡◌, List, length, pos, sym, ap, ◌∙◌}
+use Rattle.std.proofs.Common.{List, length, pos, sym, ap, ◌∙◌}
 use Rattle.std.proofs.lemmas.List.{take_rest}
 use Rattle.terms.specs.Halves.{half_size}
 use Rattle.terms.specs.declared.cards.Line.{Line}

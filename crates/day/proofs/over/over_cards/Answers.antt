@@ -1,4 +1,4 @@
-use Rattle.std.proofs.Common.{◌≡◌, take, ℤ, pos, Ok, Err, Result, sym, ap, ◌∙◌, subst, w64}
+use Rattle.std.proofs.Common.{◌≡◌, ℤ, pos, Ok, Err, Result, sym, ap, ◌∙◌, subst, w64}
 use Rattle.std.proofs.lemmas.Int.{to_z-of_z}
 use Rattle.terms.specs.Halves.{half_size}
 use Rattle.terms.specs.declared.refusal.Refusal.{Refusal}

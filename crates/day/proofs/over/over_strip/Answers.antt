@@ -1,11 +1,11 @@
-use Rattle.std.proofs.Common.{◌≡◌, Bool, true, false, eqb, List, length, Ok, Result, sym, ap, ◌∙◌, subst}
+use Rattle.std.proofs.Common.{eqb, List, length, Result, sym, ap, ◌∙◌, subst}
 use Rattle.std.proofs.lemmas.List.{take_rest}
 use Rattle.terms.specs.declared.cards.Line.{Line}
 use Rattle.terms.specs.declared.refusal.Refusal.{Refusal}
 use Rattle.banks.specs.Meanings.{Meaning}
 use Rattle.banks.specs.Strips.{strip_meaning}
 use Rattle.load.specs.Loading.{next}
-use Rattle.day.specs.Days.{beside_table, strip_alone, bank_told}
+use Rattle.day.specs.Days.{bank_told}
 use Rattle.day.specs.Told.{ToldOutcome, SafeOn}
 use Rattle.day.specs.Lent.{day_of}
 use Rattle.day.proofs.Outcomes.{told_made, safe_made, alone_none, alone_some}

@@ -1,5 +1,5 @@
-use Rattle.std.proofs.Common.{ℕ, ◌+◌, ◌*◌, ◌<◌, ◌≤◌, Bool, true, false, ltb, ℤ, pos, nat_abs, refl, zero-le, mul-le-mul_right, arith, rules}
-use Rattle.terms.specs.Halves.{points, half_size}
+use Rattle.std.proofs.Common.{ℕ, ◌+◌, ◌*◌, ◌<◌, ◌≤◌, Bool, true, false, ltb, pos, nat_abs, refl, zero-le, mul-le-mul_right, arith, rules}
+use Rattle.terms.specs.Halves.{points}
 use Rattle.terms.specs.declared.half.Half.{Half}
 use Rattle.terms.specs.declared.half.Half.TheVariants.{One, Two, Four, Eight}
 use Rattle.banks.proofs.Bounded.{bounded_is}

@@ -1,4 +1,4 @@
-use Rattle.std.proofs.Common.{◌≡◌, ◌≤◌, List, map, length, take, vec_items, sym, subst, arith}
+use Rattle.std.proofs.Common.{List, vec_items, sym, subst, arith}
 use lib.ListN.{length-map}
 use Rattle.std.proofs.lemmas.List.{length-take-le}
 use Rattle.margin.specs.declared.book.Open.{Open}

@@ -1,4 +1,4 @@
-use Rattle.std.proofs.Common.{◌≡◌, ℕ, suc, ◌+◌, ◌≤◌, Bool, true, ltb, List, [], ◌∷◌, ◌++◌, map, length, take, set, nat_abs, vec_items, sym, refl, ap, ◌∙◌, subst, zero-le, arith}
+use Rattle.std.proofs.Common.{◌≡◌, ℕ, ◌≤◌, Bool, true, ltb, List, [], ◌∷◌, map, length, nat_abs, vec_items, sym, ap, ◌∙◌, zero-le, arith}
 use lib.ListN.{length-map}
 use Rattle.std.proofs.lemmas.List.{length-append}
 use Rattle.std.proofs.lemmas.Bool.{lt-ltb}
@@ -6,7 +6,7 @@ use Rattle.terms.specs.Checks.{unless}
 use Rattle.terms.specs.declared.refusal.Refusal.TheVariants.{OrdersFull}
 use Rattle.margin.specs.declared.book.Open.{Open}
 use Rattle.cells.specs.Empty.{no_order}
-use Rattle.calls.specs.Accounts.{state_of, rest_of, first_of, book_with, trial_checks, SmallOrders}
+use Rattle.calls.specs.Accounts.{state_of, rest_of, first_of, book_with, trial_checks}
 use Rattle.calls.proofs.Copies.{front_is, one_added, more_at}
 use Rattle.calls.proofs.Kept.{bounded}
 use Rattle.calls.proofs.Sizes.{left_at, limit_at}

@@ -1,6 +1,5 @@
-use Rattle.std.proofs.Common.{ℕ, ◌+◌, ◌≤◌, leb, vec_items, ap, ◌∙◌, arith}
+use Rattle.std.proofs.Common.{ℕ, ◌+◌, leb, vec_items, ap, ◌∙◌, arith}
 use Rattle.std.proofs.lemmas.List.{get_or_default}
-use Rattle.calls.specs.Accounts.{state_of}
 use Rattle.calls.proofs.Kept.{bounded}
 use Rattle.calls.proofs.accounts.Account.count_fits.Goals as goal
 

@@ -1,4 +1,4 @@
-use Rattle.std.proofs.Common.{◌≤◌, pos, nat_abs, sym, ◌∙◌, arith}
+use Rattle.std.proofs.Common.{pos, sym, ◌∙◌, arith}
 use lib.Signed.{le_z}
 use Rattle.std.proofs.lemmas.Int.{to_z-of_z}
 use Rattle.std.proofs.lemmas.Bool.{and_parts}

@@ -1,7 +1,6 @@
-use Rattle.std.proofs.Common.{◌≡◌, ℕ, ◌<◌, ◌≤◌, length, get_or, ℤ, nat_abs, Some, Ok, sym, ap, ◌∙◌, ap₂, arith, w64, to_z, of_z}
+use Rattle.std.proofs.Common.{◌≡◌, ℕ, ◌<◌, length, get_or, ℤ, nat_abs, Some, Ok, sym, ap, ◌∙◌, ap₂, arith, w64, to_z, of_z}
 use Rattle.std.proofs.lemmas.List.{get_or_read}
 use Rattle.std.proofs.lemmas.Int.{to_z-of_z}
-use Rattle.margin.specs.declared.book.Position.{Position}
 use Rattle.cells.specs.Empty.{no_position}
 use Rattle.account.specs.declared.call.Call.TheVariants.{Fill}
 use Rattle.account.specs.declared.orders.Order.{Order}

@@ -1,4 +1,4 @@
-use Rattle.std.proofs.Common.{◌≡◌, Ok, sym, refl, ap, ◌∙◌, arith}
+use Rattle.std.proofs.Common.{Ok, sym, ap, arith}
 use Rattle.account.specs.Account as account
 use Rattle.account.specs.Account.{Required, step}
 use Rattle.calls.specs.Accounts.{state_of}

@@ -1,4 +1,4 @@
-use Rattle.std.proofs.Common.{◌≡◌, true, length, None, Ok, Err, sym, ap, ◌∙◌, ap₂}
+use Rattle.std.proofs.Common.{◌≡◌, true, length, None, Ok, sym, ◌∙◌, ap₂}
 use Rattle.std.proofs.lemmas.Int.{to_z-of_z}
 use Rattle.terms.specs.declared.refusal.Refusal.TheVariants.{NoSuchLine}
 use Rattle.deck.specs.Judgements.{name_fits}

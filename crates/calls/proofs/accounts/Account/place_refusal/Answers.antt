@@ -1,9 +1,8 @@
-use Rattle.std.proofs.Common.{◌≡◌, true, ltb, ◌∷◌, length, pos, nat_abs, sym, ap, ◌∙◌, arith}
+use Rattle.std.proofs.Common.{◌≡◌, true, ltb, ◌∷◌, length, pos, nat_abs, sym, ap, ◌∙◌}
 use Rattle.std.proofs.lemmas.Int.{to_z-of_z}
 use Rattle.terms.specs.Checks.{unless}
 use Rattle.terms.specs.declared.refusal.Refusal.TheVariants.{NoSuchLine, BadQuantity, BadPrice, OrdersFull}
 use Rattle.margin.specs.declared.book.Open.{Open}
-use Rattle.margin.specs.Book.{named}
 use Rattle.deck.specs.Judgements.{name_fits}
 use Rattle.account.specs.Account.{quantity_fits, price_fits}
 use Rattle.account.proofs.Bounded.{one_of}

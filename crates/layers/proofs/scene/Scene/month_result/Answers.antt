@@ -1,4 +1,4 @@
-use Rattle.std.proofs.Common.{◌^◌, ◌≤◌, ap, le_trans, lit≤}
+use Rattle.std.proofs.Common.{◌^◌, ap, le_trans, lit≤}
 use Rattle.margin.specs.Layers.{month_result}
 use Rattle.layers.proofs.Sizes.{added}
 use Rattle.layers.proofs.scene.Scene.month_result.Goals as goal
