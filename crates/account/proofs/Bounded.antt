@@ -2,7 +2,7 @@
 use Rattle.std.proofs.Common.{◌≡◌, ℕ, zero, suc, ◌+◌, ◌-◌, ◌*◌, ◌<◌, ◌≤◌, Bool, true, false, ◌&&◌, eqb, List, [], ◌∷◌, ◌++◌, length, get_or, set, replicate, ℤ, pos, negsuc, ◌+ℤ◌, ◌-ℤ◌, ◌*ℤ◌, neg_ℤ, nat_abs, ◌≤ℤ◌, Some, None, Option, sym, refl, ◌∙◌, subst, le_trans, arith, length-append}
 use lib.Signed.{le_z, ≤ℤ_refl}
 use Rattle.std.specs.Int.{int_max}
-use Rattle.std.specs.List.{AllByRecursion as All}
+use Rattle.std.specs.List.{AllByRecursion}
 use Rattle.std.proofs.ByRecursion.{All-get_or, All-from_get_or, All-set, All-push, All-weaker}
 use Rattle.std.proofs.lemmas.List.{length-set, length-replicate, get_or-replicate}
 use Rattle.std.proofs.lemmas.Int.{ints, clamps}
@@ -51,26 +51,26 @@ orders_no_more number event (o ∷ os) = by (names number o.number) (is_gone (or
     by false gone h = omega arith
 
 -- an event keeps what holds of each order, if the order that it meets keeps it unless it is gone
-pub orders_keep : (P : Order → Type 0) (number : ℤ) (event : Event) (orders : List Order) (o : Order) → found number orders ≡ Some o → (is_gone (order_after event o).state ≡ false → P o → P (order_after event o)) → All P orders → All P (orders_after number event orders)
+pub orders_keep : (P : Order → Type 0) (number : ℤ) (event : Event) (orders : List Order) (o : Order) → found number orders ≡ Some o → (is_gone (order_after event o).state ≡ false → P o → P (order_after event o)) → AllByRecursion P orders → AllByRecursion P (orders_after number event orders)
 unfolding orders_after kept found
 orders_keep P number event [] o e keeps all = all
 orders_keep P number event (first ∷ os) o e keeps all = by (λ f. orders_keep P number event os o f keeps all.1) (names number first.number) e
   where
-    by_kept : P o → (gone : Bool) → is_gone (order_after event o).state ≡ gone → All P (elim gone [ true ↦ os | false ↦ order_after event o ∷ os ])
+    by_kept : P o → (gone : Bool) → is_gone (order_after event o).state ≡ gone → AllByRecursion P (elim gone [ true ↦ os | false ↦ order_after event o ∷ os ])
     by_kept p true g = all.1
     by_kept p false g = (keeps g p, all.1)
 
-    by : (found number os ≡ Some o → All P (orders_after number event os)) → (this : Bool) → ◌≡◌ {A = Option Order} (elim this [ true ↦ Some first | false ↦ found number os ]) (Some o) → All P (elim this [ true ↦ elim (is_gone (order_after event first).state) [ true ↦ os | false ↦ order_after event first ∷ os ] | false ↦ first ∷ orders_after number event os ])
-    by later true f = let same : first ≡ o = cc in subst (λ (x : Order). All P (elim (is_gone (order_after event x).state) [ true ↦ os | false ↦ order_after event x ∷ os ])) (sym same) (by_kept (subst P same all.0) (is_gone (order_after event o).state) refl)
+    by : (found number os ≡ Some o → AllByRecursion P (orders_after number event os)) → (this : Bool) → ◌≡◌ {A = Option Order} (elim this [ true ↦ Some first | false ↦ found number os ]) (Some o) → AllByRecursion P (elim this [ true ↦ elim (is_gone (order_after event first).state) [ true ↦ os | false ↦ order_after event first ∷ os ] | false ↦ first ∷ orders_after number event os ])
+    by later true f = let same : first ≡ o = cc in subst (λ (x : Order). AllByRecursion P (elim (is_gone (order_after event x).state) [ true ↦ os | false ↦ order_after event x ∷ os ])) (sym same) (by_kept (subst P same all.0) (is_gone (order_after event o).state) refl)
     by later false f = (all.0, later f)
 
 -- an event keeps what holds of the numbers, and their order
-numbers_keep : (P : ℕ → Type 0) (number : ℤ) (event : Event) (orders : List Order) → All (λ (o : Order). P o.number) orders → All (λ (o : Order). P o.number) (orders_after number event orders)
+numbers_keep : (P : ℕ → Type 0) (number : ℤ) (event : Event) (orders : List Order) → AllByRecursion (λ (o : Order). P o.number) orders → AllByRecursion (λ (o : Order). P o.number) (orders_after number event orders)
 unfolding orders_after kept order_after
 numbers_keep P number event [] all = all
 numbers_keep P number event (o ∷ os) all = by (numbers_keep P number event os all.1) (names number o.number) (is_gone (order_after event o).state)
   where
-    by : All (λ (o : Order). P o.number) (orders_after number event os) → (this gone : Bool) → All (λ (o : Order). P o.number) (elim this [ true ↦ elim gone [ true ↦ os | false ↦ order_after event o ∷ os ] | false ↦ o ∷ orders_after number event os ])
+    by : AllByRecursion (λ (o : Order). P o.number) (orders_after number event os) → (this gone : Bool) → AllByRecursion (λ (o : Order). P o.number) (elim this [ true ↦ elim gone [ true ↦ os | false ↦ order_after event o ∷ os ] | false ↦ o ∷ orders_after number event os ])
     by later true true = all.1
     by later true false = all
     by later false gone = (all.0, later)
@@ -85,12 +85,12 @@ ascending_keeps number event (o ∷ os) up = by (ascending_keeps number event os
     by later true false = up
     by later false gone = (numbers_keep (λ n. o.number < n) number event os up.0, later)
 
-ascending_push : (orders : List Order) (o : Order) → All (λ earlier. earlier.number < o.number) orders → Ascending orders → Ascending (orders ++ o ∷ [])
+ascending_push : (orders : List Order) (o : Order) → AllByRecursion (λ earlier. earlier.number < o.number) orders → Ascending orders → Ascending (orders ++ o ∷ [])
 ascending_push [] o before up = (tt, tt)
 ascending_push (first ∷ os) o before up = (All-push (λ later. first.number < later.number) os o up.0 before.0, ascending_push os o before.1 up.1)
 
 -- what holds of each order holds of the one found
-pub found_has : (P : Order → Type 0) (number : ℤ) (orders : List Order) (o : Order) → found number orders ≡ Some o → All P orders → P o
+pub found_has : (P : Order → Type 0) (number : ℤ) (orders : List Order) (o : Order) → found number orders ≡ Some o → AllByRecursion P orders → P o
 unfolding found
 found_has P number [] o e all = absurd (let z : ◌≡◌ {A = ℕ} 0 1 = cc in omega arith)
 found_has P number (first ∷ os) o e all = by (λ f. found_has P number os o f all.1) (names number first.number) e
@@ -282,13 +282,13 @@ held_fits_lem lines all place h e = record { net_low = at_most (negsuc 9999) h.n
     most : (n : ℕ) → n ≤ 10000 → dearest * n ≤ dearest * 10000
     most n k = omega arith
 
-put_in_fits : (held : List Held) (positions : List Position) → All (λ h. PositionFits (held_at h)) held → All PositionFits positions → All PositionFits (put_in held positions)
+put_in_fits : (held : List Held) (positions : List Position) → AllByRecursion (λ h. PositionFits (held_at h)) held → AllByRecursion PositionFits positions → AllByRecursion PositionFits (put_in held positions)
 unfolding put_in
 put_in_fits [] positions hs ps = ps
 put_in_fits (h ∷ held) positions hs ps = put_in_fits held (set positions (named h.line) (held_at h)) hs.1 (All-set PositionFits positions (named h.line) (held_at h) hs.0 ps)
 
 -- where no card and no record is unfit, what is held is small
-records_fit : (cards : Cards) (held : List Held) → first_unfit cards held ≡ None → All (λ h. PositionFits (held_at h)) held
+records_fit : (cards : Cards) (held : List Held) → first_unfit cards held ≡ None → AllByRecursion (λ h. PositionFits (held_at h)) held
 records_fit cards held e = All-from_get_or _ held none (λ k less. held_fits_lem (length cards.lines) held k (get_or held k none) (none_fails (held_fits (length cards.lines) held) none held (none_unfit cards held e).1 k less))
   where
     none : Held

@@ -4,7 +4,7 @@ use std.HLevel.{Π_prop}
 use native.Mathlib.Bridge.{le_prop}
 use base.Stored.{coded_ℕ}
 use denote.Struct.Props.{≡_prop, props}
-use Rattle.std.specs.List.{AllByRecursion as All}
+use Rattle.std.specs.List.{AllByRecursion}
 use Rattle.banks.specs.Meanings.{Meaning}
 use Rattle.account.specs.declared.orders.Order.{Order}
 use Rattle.account.specs.Account.{State}
@@ -13,7 +13,7 @@ use Rattle.account.specs.Bounds.{OrderInBounds, Ascending, LineInBounds, InBound
 at_most_one : (a b : ℤ) → IsProp (a ≤ℤ b)
 at_most_one a b = hlevel props
 
-all_one : {X : Type 0} (P : X → Type 0) → ((x : X) → IsProp (P x)) → (xs : List X) → IsProp (All P xs)
+all_one : {X : Type 0} (P : X → Type 0) → ((x : X) → IsProp (P x)) → (xs : List X) → IsProp (AllByRecursion P xs)
 all_one P one [] p q = refl
 all_one P one (x ∷ xs) p q = λ i. (one x p.0 q.0 i, all_one P one xs p.1 q.1 i)
 

@@ -1,6 +1,6 @@
 -- How large an account's numbers may become, in every state that it comes to from its begin.
 use Rattle.std.specs.Prelude.{◌≡◌, ℕ, suc, ◌+◌, ◌*◌, ◌<◌, ◌≤◌, List, [], ◌∷◌, length, ℤ, pos, ◌+ℤ◌, ◌-ℤ◌, ◌*ℤ◌, ◌≤ℤ◌, Ok, slice_index, slice_index_or, unsigned_abs}
-use Rattle.std.specs.List.{AllByRecursion as All}
+use Rattle.std.specs.List.{AllByRecursion}
 use Rattle.terms.specs.declared.cards.Held.{Held}
 use Rattle.banks.specs.Meanings.{Meaning}
 use Rattle.margin.specs.Book.{Cards, position}
@@ -27,7 +27,7 @@ pub record OrderInBounds (lines next : ℕ) (o : Order) : Type 0 where
 -- each order's number is lower than the numbers of those after it
 abbrev pub Ascending : List Order → Type 0
 Ascending [] = Unit {0}
-Ascending (o ∷ os) = All (λ later. o.number < later.number) os × Ascending os
+Ascending (o ∷ os) = AllByRecursion (λ later. o.number < later.number) os × Ascending os
 
 pub record LineInBounds (s : State) (l : ℕ) : Type 0 where
   -- what the line may come to hold, and to be short of
@@ -45,7 +45,7 @@ pub record InBounds (s : State) : Type 0 where
   pub a_position_a_line : length s.positions ≡ length s.cards.lines
   pub a_count_a_line : length s.accepted ≡ length s.cards.lines
   pub few_orders : length s.orders ≤ 32
-  pub each_order : All (OrderInBounds (length s.cards.lines) s.next) s.orders
+  pub each_order : AllByRecursion (OrderInBounds (length s.cards.lines) s.next) s.orders
   pub numbers_ascend : Ascending s.orders
   pub each_line : (l : ℕ) → l < length s.cards.lines → LineInBounds s l
   pub next_from_1 : 1 ≤ s.next

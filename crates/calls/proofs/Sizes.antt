@@ -1,6 +1,6 @@
 -- How large the numbers of an account in bounds are at every place, those beyond its lists being 0.
 use Rattle.std.proofs.Common.{◌≡◌, ℕ, zero, suc, ◌<◌, ◌≤◌, List, [], ◌∷◌, map, length, get_or, nat_abs, sym, refl, ap, subst, ⊎_elim, zero-le, arith}
-use Rattle.std.specs.List.{AllByRecursion as All}
+use Rattle.std.specs.List.{AllByRecursion}
 use Rattle.std.proofs.lemmas.List.{get_or_past}
 use Rattle.std.proofs.lemmas.Bool.{cases_lt}
 use Rattle.margin.specs.declared.book.Position.{Position}
@@ -23,7 +23,7 @@ module _ (s : State) (b : InBounds s) where
   pub cost_at : (l : ℕ) → nat_abs (get_or s.positions l no_position).cost ≤ 72057594037927936
   cost_at = everywhere s (λ p. nat_abs p.cost) 72057594037927936 refl (λ l less. let h = (in_bounds_is_small s b l (rw (sym b.a_position_a_line) less)).cost_small in omega arith)
 
-opens_at : (lines next : ℕ) (orders : List Order) → All (OrderInBounds lines next) orders → (i : ℕ) → (nat_abs (get_or (map rest_of orders) i no_order).left ≤ 10000) × (nat_abs (get_or (map rest_of orders) i no_order).limit ≤ 10000000)
+opens_at : (lines next : ℕ) (orders : List Order) → AllByRecursion (OrderInBounds lines next) orders → (i : ℕ) → (nat_abs (get_or (map rest_of orders) i no_order).left ≤ 10000) × (nat_abs (get_or (map rest_of orders) i no_order).limit ≤ 10000000)
 opens_at lines next [] all i = (zero-le, zero-le)
 opens_at lines next (o ∷ os) all zero = (all.0.not_much_left, in_size o.rest.limit 10000000 all.0.limit_low all.0.limit_high)
 opens_at lines next (o ∷ os) all (suc i) = opens_at lines next os all.1 i

@@ -1,3 +1,5 @@
+#![tactic(auto)]
+
 // Tests of the account's calls: what refuses each of them at both sides of each bound, margins of small accounts, and runs.
 #[cfg(test)]
 mod begins;

@@ -1,6 +1,8 @@
 // Runs session files the way daybook does, and compares what they answer with the answers of an independent second program.
 // Standard input holds the cases one after the other: a line with the name, a line with the length of the session file, a line
 // with the length of the answer, then the bytes of both.
+#![tactic(auto)]
+
 use anyhow::anyhow;
 use day::report::Refused;
 use day::session::answer;

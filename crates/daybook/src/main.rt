@@ -1,5 +1,7 @@
 // Runs the session file on standard input, and prints what its account answers: a line for each order, then the margin, what each
 // family loses, and the collateral that is free. A file or an account that is refused prints its refusal alone.
+#![tactic(auto)]
+
 use day::report::Refused;
 use day::session::answer;
 use std::alloc::AllocError;

@@ -1,6 +1,6 @@
 -- The reader over the writing of a form.
 use Rattle.std.proofs.Common.{◌≡◌, ℕ, zero, suc, ◌+◌, Bool, true, false, ◌&&◌, eqb, ltb, List, [], ◌∷◌, ◌++◌, length, get_or, drop, ℤ, Ok, Err, sym, refl, ap, ◌∙◌, append_assoc, arith, length-append}
-use Rattle.std.specs.List.{flat_map, AllByRecursion as All}
+use Rattle.std.specs.List.{flat_map, AllByRecursion}
 use Rattle.std.specs.Fmt.{signed_decimal}
 use Rattle.std.proofs.lemmas.Bool.{and_parts, and_left, le-ltb, eqb-true, true≢false}
 use Rattle.std.proofs.lemmas.List.{length-drop}
@@ -56,7 +56,7 @@ module _ (text : List ℕ) where
       ap (λ t. then t (λ _ q. field_in allowed text q)) (byte_is text at 32 (signed_decimal n ++ rest) e) ∙ ap (λ t. then t (λ m q. given (allows allowed m) (OutsideField (at + 1)) (Ok (m, q)))) read
 
   module _ {R : Type 0} (fill : R → ℕ → ℤ → R) (allowed : Allowed) where
-    numbers_there : (ns : List ℤ) (rest : List ℕ) (index : ℕ) (r : R) (at : ℕ) → All InRange ns → drop at text ≡ J ns ++ (41 ∷ rest) → numbers_in fill allowed text (length ns) index r at ≡ judge_numbers fill allowed ns index r at
+    numbers_there : (ns : List ℤ) (rest : List ℕ) (index : ℕ) (r : R) (at : ℕ) → AllByRecursion InRange ns → drop at text ≡ J ns ++ (41 ∷ rest) → numbers_in fill allowed text (length ns) index r at ≡ judge_numbers fill allowed ns index r at
     unfolding numbers_in judge_numbers
     numbers_there [] rest index r at a e = refl
     numbers_there (n ∷ ns) rest index r at a e =
@@ -90,7 +90,7 @@ module _ (text : List ℕ) where
       let second = byte_is text (at + 1) 40 rest (behind_one text at 32 (40 ∷ rest) e) in
       rw (stands_is text at 32 (40 ∷ rest) e 41, byte_is text at 32 (40 ∷ rest) e, second)
 
-  head_there : (a : Asked) (h : List ℕ) (ns : List ℤ) (rest : List ℕ) (bracket at : ℕ) → letters a.head ≡ true → letters h ≡ true → All InRange ns → drop at text ≡ h ++ (J ns ++ (41 ∷ rest)) → head_in a bracket text at ≡ given (same a.head h && eqb (length ns) a.count) (WrongForm bracket) (Ok (tt, at + length a.head))
+  head_there : (a : Asked) (h : List ℕ) (ns : List ℤ) (rest : List ℕ) (bracket at : ℕ) → letters a.head ≡ true → letters h ≡ true → AllByRecursion InRange ns → drop at text ≡ h ++ (J ns ++ (41 ∷ rest)) → head_in a bracket text at ≡ given (same a.head h && eqb (length ns) a.count) (WrongForm bracket) (Ok (tt, at + length a.head))
   unfolding head_in
   head_there a h ns rest bracket at l m p e =
       let bs = h ++ (J ns ++ (41 ∷ rest)) in
@@ -163,7 +163,7 @@ module _ {R : Type 0} (text : List ℕ) (fill : ℕ → R → ℕ → ℤ → R)
   abbrev pub to_the_end : List Asked → ℕ → R → ℕ → Told R
   to_the_end fields inner r at = then (inners_in fill text fields inner r at) (λ s u. then (close_in text u) (λ _ v. Ok (s, v)))
 
-  pub inners_there : (fields : List Asked) (is : List Inner) (rest : List ℕ) (inner : ℕ) (r : R) (at : ℕ) → All (λ a. letters a.head ≡ true) fields → All ProperInner is → drop at text ≡ K is ++ (41 ∷ 10 ∷ rest) → to_the_end fields inner r at ≡ judge_inners fill fields is inner r at
+  pub inners_there : (fields : List Asked) (is : List Inner) (rest : List ℕ) (inner : ℕ) (r : R) (at : ℕ) → AllByRecursion (λ a. letters a.head ≡ true) fields → AllByRecursion ProperInner is → drop at text ≡ K is ++ (41 ∷ 10 ∷ rest) → to_the_end fields inner r at ≡ judge_inners fill fields is inner r at
   unfolding inners_in judge_inners close_in
   inners_there [] [] rest inner r at l p e =
       let second = byte_is text (at + 1) 10 rest (behind_one text at 41 (10 ∷ rest) e) in
@@ -240,7 +240,7 @@ module _ {R : Type 0} (head : List ℕ) (fields : List Asked) (empty : R) (fill 
   none_begins : (at : ℕ) → drop at text ≡ [] → begins head text at ≡ false
   none_begins at e = and_left (stands 40 text at) (is_head head (drop (at + 1) text)) (nothing_there text at 40 e)
 
-  list_there : (fs : List Outer) (room at : ℕ) (rs : List R) → All Proper fs → drop at text ≡ text_of fs → list_on head fields empty fill text room rs at ≡ judge_list head fields empty fill room rs fs at
+  list_there : (fs : List Outer) (room at : ℕ) (rs : List R) → AllByRecursion Proper fs → drop at text ≡ text_of fs → list_on head fields empty fill text room rs at ≡ judge_list head fields empty fill room rs fs at
   unfolding list_on judge_list
   list_there [] zero at rs p e = rw (none_begins at e)
   list_there [] (suc room) at rs p e = rw (none_begins at e, list_on)

@@ -1,6 +1,6 @@
 -- The reader over the writing of a row.
 use Rattle.std.proofs.Common.{◌≡◌, ℕ, zero, suc, ◌+◌, ◌/◌, ◌%◌, Bool, true, false, leb, List, [], ◌∷◌, ◌++◌, length, drop, ℤ, pos, Ok, Err, codes, sym, refl, ap, ◌∙◌, append_assoc, arith, length-append}
-use Rattle.std.specs.List.{AllByRecursion as All}
+use Rattle.std.specs.List.{AllByRecursion}
 use Rattle.terms.specs.Halves.{points}
 use Rattle.terms.specs.declared.half.Half.{Half}
 use Rattle.terms.specs.declared.refusal.Refusal.TheVariants.{WrongForm}
@@ -14,9 +14,9 @@ use Rattle.forms.specs.Rows.{line_asked, column_asked, prices_asked, added, is_d
 use Rattle.forms.proofs.There.{behind_all, behind_one, then_same}
 use Rattle.forms.proofs.Written.{K, given_then, given_same, given_ok, same_heads, then_ok_parts, then_assoc, inner_missing, inner_there, inner_end, inners_there, inners_end, begins_there, no_letter_forms, nothing_there}
 
-module _ {Y : Type 0} (text rest : List ℕ) (f : Unit {0} → ℕ → Told Y) (g : List Inner → ℕ → Told Y) (h : (is : List Inner) (u : ℕ) → drop u text ≡ K is ++ (41 ∷ rest) → All ProperInner is → f tt u ≡ g is u) where
+module _ {Y : Type 0} (text rest : List ℕ) (f : Unit {0} → ℕ → Told Y) (g : List Inner → ℕ → Told Y) (h : (is : List Inner) (u : ℕ) → drop u text ≡ K is ++ (41 ∷ rest) → AllByRecursion ProperInner is → f tt u ≡ g is u) where
   -- the number that is due, and what comes behind it
-  due_then : (a : Asked) (due bracket : ℕ) (is : List Inner) (at : ℕ) → letters a.head ≡ true → All ProperInner is → drop at text ≡ K is ++ (41 ∷ rest) → then (due_in a due bracket text at) f ≡ then (judge_due a due bracket is at) g
+  due_then : (a : Asked) (due bracket : ℕ) (is : List Inner) (at : ℕ) → letters a.head ≡ true → AllByRecursion ProperInner is → drop at text ≡ K is ++ (41 ∷ rest) → then (due_in a due bracket text at) f ≡ then (judge_due a due bracket is at) g
   unfolding due_in judge_due
   due_then a due bracket [] at l p e = ap (λ t. then (then t (λ n q. given (is_due due n) (WrongForm bracket) (Ok (tt, q)))) f) (inner_missing text (λ _ _ n. n) a (pos 0) at rest e)
   due_then a due bracket (i ∷ is) at l p e =
@@ -94,7 +94,7 @@ unfolding row_in front_in outer_in
 row_missing line column half text prices at e = rw (nothing_there text at 40 e)
 
 module _ (first : ℕ) (half : Half) (text : List ℕ) (room : ℕ) where
-  rows_there : (fs : List Outer) (left index : ℕ) (prices : List ℤ) (at : ℕ) → All Proper fs → drop at text ≡ text_of fs → rows_in first half text room left index prices at ≡ judge_rows first half room left index prices fs at
+  rows_there : (fs : List Outer) (left index : ℕ) (prices : List ℤ) (at : ℕ) → AllByRecursion Proper fs → drop at text ≡ text_of fs → rows_in first half text room left index prices at ≡ judge_rows first half room left index prices fs at
   unfolding rows_in judge_rows
   rows_there fs zero index prices at p e = refl
   rows_there [] (suc left) index prices at p e = missing (leb (length prices + points half) room)

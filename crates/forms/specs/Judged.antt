@@ -1,7 +1,7 @@
 -- What a kind of form makes of an outer form that stands at a byte of the text: its record and the place behind its line, or a refusal.
 use Rattle.std.specs.Prelude.{◌≡◌, ℕ, zero, suc, ◌+◌, Bool, true, false, not, ◌&&◌, List, [], ◌∷◌, ◌++◌, length, drop, ℤ, Ok, Err, ◌==◌}
 use Rattle.std.specs.Fmt.{signed_decimal}
-use Rattle.std.specs.List.{AllByRecursion as All}
+use Rattle.std.specs.List.{AllByRecursion}
 use Rattle.terms.specs.declared.refusal.Refusal.TheVariants.{OutsideField, WrongForm}
 use Rattle.text.specs.Grammar.{Inner, Outer, letters, Proper, text_of}
 use Rattle.forms.specs.declared.field.Allowed.{Allowed}
@@ -57,14 +57,14 @@ module _ {R : Type 0} where
 
 -- the head and the heads of the inner forms are letters
 abbrev pub Lettered : List ℕ → List Asked → Type 0
-Lettered head fields = (letters head ≡ true) × All (λ a. letters a.head ≡ true) fields
+Lettered head fields = (letters head ≡ true) × AllByRecursion (λ a. letters a.head ≡ true) fields
 
 -- where the lines of outer forms are left of the text, the reader makes of the bytes what the kind makes of the first form
 abbrev pub ReadsForms : {R : Type 0} → List ℕ → List Asked → R → (ℕ → R → ℕ → ℤ → R) → Type 0
 ReadsForms head fields empty fill =
-    (fs : List Outer) (text : List ℕ) (at : ℕ) → All Proper fs → drop at text ≡ text_of fs → form_in head fields empty fill text at ≡ judge_next head fields empty fill fs at
+    (fs : List Outer) (text : List ℕ) (at : ℕ) → AllByRecursion Proper fs → drop at text ≡ text_of fs → form_in head fields empty fill text at ≡ judge_next head fields empty fill fs at
 
 -- likewise for the lines of a kind that follow one another
 abbrev pub ReadsLists : {R : Type 0} → List ℕ → List Asked → R → (ℕ → R → ℕ → ℤ → R) → Type 0
 ReadsLists {R} head fields empty fill =
-    (fs : List Outer) (text : List ℕ) (room at : ℕ) (rs : List R) → All Proper fs → drop at text ≡ text_of fs → list_on head fields empty fill text room rs at ≡ judge_list head fields empty fill room rs fs at
+    (fs : List Outer) (text : List ℕ) (room at : ℕ) (rs : List R) → AllByRecursion Proper fs → drop at text ≡ text_of fs → list_on head fields empty fill text room rs at ≡ judge_list head fields empty fill room rs fs at

@@ -1,6 +1,6 @@
 -- Rows of prices: seven for each option, by line and column, each with a price at every point of the grid.
 use Rattle.std.specs.Prelude.{◌≡◌, ℕ, zero, suc, ◌+◌, ◌/◌, ◌%◌, Bool, true, false, List, [], ◌∷◌, ◌++◌, length, drop, ℤ, pos, negsuc, Ok, Err, codes, ◌==◌, nat_le, nat_lt}
-use Rattle.std.specs.List.{AllByRecursion as All}
+use Rattle.std.specs.List.{AllByRecursion}
 use Rattle.terms.specs.Halves.{points}
 use Rattle.terms.specs.declared.half.Half.{Half}
 use Rattle.terms.specs.declared.refusal.Refusal.TheVariants.{WrongForm}
@@ -84,5 +84,5 @@ judge_rows first half room (suc left) index prices (f ∷ fs) at =
 -- where the lines of outer forms are left of the text, the reader makes of the bytes what the forms are as rows
 abbrev pub ReadsRows : Type 0
 ReadsRows =
-    (first : ℕ) (half : Half) (fs : List Outer) (text : List ℕ) (room left index : ℕ) (prices : List ℤ) (at : ℕ) → All Proper fs → drop at text ≡ text_of fs →
+    (first : ℕ) (half : Half) (fs : List Outer) (text : List ℕ) (room left index : ℕ) (prices : List ℤ) (at : ℕ) → AllByRecursion Proper fs → drop at text ≡ text_of fs →
     rows_in first half text room left index prices at ≡ judge_rows first half room left index prices fs at

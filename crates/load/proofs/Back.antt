@@ -1,7 +1,7 @@
 -- From what was read to how it was written, and from what is written to what is read: one form, and forms of a kind that follow one another.
 use Rattle.std.proofs.Common.{◌≡◌, ℕ, zero, suc, ◌+◌, ◌≤◌, Bool, true, false, not, List, [], ◌∷◌, ◌++◌, map, length, drop, Ok, sym, refl, ap, ◌∙◌, subst, append_assoc, append-nil, arith, length-append}
 use mathlib.Core.List.{append_cancel_left}
-use Rattle.std.specs.List.{AllByRecursion as All}
+use Rattle.std.specs.List.{AllByRecursion}
 use Rattle.terms.specs.declared.refusal.Refusal.TheVariants.{WrongForm}
 use Rattle.text.specs.Grammar.{Outer, Proper, outer_text, text_of}
 use Rattle.text.proofs.Readback.{ok_parts, err_ok}
@@ -59,18 +59,18 @@ module _ {R : Type 0} (format : Format R) (codec : Codec format) where
     pub rest : List Outer
     pub whole : fs ≡ map codec.form records ++ rest
     pub all : xs ≡ rs ++ records
-    pub good : All Good records
+    pub good : AllByRecursion Good records
     pub few : length records ≤ room
     pub place : u ≡ at + length (text_of (map codec.form records))
-    pub proper : All Proper rest
+    pub proper : AllByRecursion Proper rest
 
-  list_back : (room : ℕ) (rs : List R) (fs : List Outer) (at : ℕ) (xs : List R) (u : ℕ) → All Proper fs → list room rs fs at ≡ Ok (xs, u) → Taken rs fs at xs u room
+  list_back : (room : ℕ) (rs : List R) (fs : List Outer) (at : ℕ) (xs : List R) (u : ℕ) → AllByRecursion Proper fs → list room rs fs at ≡ Ok (xs, u) → Taken rs fs at xs u room
   unfolding judge_list
   list_back room rs [] at xs u p h =
       let q = ok_parts rs xs at u h in
       none room [] rs at xs u p q.0 q.1
     where
-      none : (room : ℕ) (fs : List Outer) (rs : List R) (at : ℕ) (xs : List R) (u : ℕ) → All Proper fs → rs ≡ xs → at ≡ u → Taken rs fs at xs u room
+      none : (room : ℕ) (fs : List Outer) (rs : List R) (at : ℕ) (xs : List R) (u : ℕ) → AllByRecursion Proper fs → rs ≡ xs → at ≡ u → Taken rs fs at xs u room
       none room fs rs at xs u p e f = record { records = []; rest = fs; whole = refl; all = sym e ∙ sym (append-nil rs); good = tt; few = omega arith; place = omega arith; proper = p }
   list_back zero rs (f ∷ fs) at xs u p h =
       let q = given_ok (not (same format.head f.head)) (WrongForm at) (Ok (rs, at)) xs u h in
@@ -101,7 +101,7 @@ module _ {R : Type 0} (format : Format R) (codec : Codec format) where
             proper = taken.proper;
           }
 
-  list_ahead : (room : ℕ) (rs ys : List R) (rest : List Outer) (at : ℕ) → All codec.Fits ys → length ys ≤ room → Other format.head rest → (u : ℕ) × (list room rs (map codec.form ys ++ rest) at ≡ Ok (rs ++ ys, u))
+  list_ahead : (room : ℕ) (rs ys : List R) (rest : List Outer) (at : ℕ) → AllByRecursion codec.Fits ys → length ys ≤ room → Other format.head rest → (u : ℕ) × (list room rs (map codec.form ys ++ rest) at ≡ Ok (rs ++ ys, u))
   unfolding judge_list
   list_ahead room rs [] [] at good few other = (at, ap (λ l. Ok (l, at)) (sym (append-nil rs)))
   list_ahead zero rs [] (f ∷ fs) at good few other = (at, ap (λ t. given (not t) (WrongForm at) (Ok (rs, at))) other ∙ ap (λ l. Ok (l, at)) (sym (append-nil rs)))
@@ -118,24 +118,24 @@ module _ {R : Type 0} (format : Format R) (codec : Codec format) where
             ∙ ap (λ l. Ok (l, more.0)) (append_assoc rs (y ∷ []) ys),
       )
 
-  pub all_proper : (ys : List R) (rest : List Outer) → All Good ys → All Proper rest → All Proper (map codec.form ys ++ rest)
+  pub all_proper : (ys : List R) (rest : List Outer) → AllByRecursion Good ys → AllByRecursion Proper rest → AllByRecursion Proper (map codec.form ys ++ rest)
   all_proper [] rest good p = p
   all_proper (y ∷ ys) rest good p = (good.0.1, all_proper ys rest good.1 p)
 
-  pub all_fit : (ys : List R) → All Good ys → All codec.Fits ys
+  pub all_fit : (ys : List R) → AllByRecursion Good ys → AllByRecursion codec.Fits ys
   all_fit [] good = tt
   all_fit (y ∷ ys) good = (good.0.0, all_fit ys good.1)
 
   module _ (text : List ℕ) (at : ℕ) where
     -- forms of the kind that were read, of those that are left: how they are written, and what is left behind them
-    pub any_back : (room : ℕ) (fs : List Outer) (xs : List R) (u : ℕ) → All Proper fs → drop at text ≡ text_of fs → any_at format text room at ≡ Ok (xs, u) → (rest : List Outer) × (fs ≡ map codec.form xs ++ rest) × All Good xs × (length xs ≤ room) × (drop u text ≡ text_of rest) × All Proper rest
+    pub any_back : (room : ℕ) (fs : List Outer) (xs : List R) (u : ℕ) → AllByRecursion Proper fs → drop at text ≡ text_of fs → any_at format text room at ≡ Ok (xs, u) → (rest : List Outer) × (fs ≡ map codec.form xs ++ rest) × AllByRecursion Good xs × (length xs ≤ room) × (drop u text ≡ text_of rest) × AllByRecursion Proper rest
     any_back room fs xs u p e h =
         let taken = list_back room [] fs at xs u p (sym (reads_lists format.head format.fields format.empty format.fill codec.lettered fs text room at [] p e) ∙ h) in
         let same-records = sym taken.all in
         let behind = ap (λ n. drop n text) taken.place ∙ behind_all text at (text_of (map codec.form taken.records)) (text_of taken.rest) (e ∙ ap text_of taken.whole ∙ text_append (map codec.form taken.records) taken.rest) in
-        (taken.rest, taken.whole ∙ ap (λ l. map codec.form l ++ taken.rest) same-records, subst (All Good) same-records taken.good, subst (λ (l : List R). length l ≤ room) same-records taken.few, behind, taken.proper)
+        (taken.rest, taken.whole ∙ ap (λ l. map codec.form l ++ taken.rest) same-records, subst (AllByRecursion Good) same-records taken.good, subst (λ (l : List R). length l ≤ room) same-records taken.few, behind, taken.proper)
 
-    pub any_ahead : (room : ℕ) (ys : List R) (rest : List Outer) → All Good ys → All Proper rest → length ys ≤ room → Other format.head rest → drop at text ≡ text_of (map codec.form ys ++ rest) → (u : ℕ) × (any_at format text room at ≡ Ok (ys, u)) × (drop u text ≡ text_of rest)
+    pub any_ahead : (room : ℕ) (ys : List R) (rest : List Outer) → AllByRecursion Good ys → AllByRecursion Proper rest → length ys ≤ room → Other format.head rest → drop at text ≡ text_of (map codec.form ys ++ rest) → (u : ℕ) × (any_at format text room at ≡ Ok (ys, u)) × (drop u text ≡ text_of rest)
     any_ahead room ys rest good p few other e =
         let proper = all_proper ys rest good p in
         let read = list_ahead room [] ys rest at (all_fit ys good) few other in
@@ -143,18 +143,18 @@ module _ {R : Type 0} (format : Format R) (codec : Codec format) where
         let back = any_back room (map codec.form ys ++ rest) ys read.0 proper e is in
         (read.0, is, back.4 ∙ ap text_of (sym (append_cancel_left (map codec.form ys) rest back.0 back.1)))
 
-    pub form_read : (fs : List Outer) (r : R) (u : ℕ) → All Proper fs → drop at text ≡ text_of fs → form_at format text at ≡ Ok (r, u) → (rest : List Outer) × (fs ≡ codec.form r ∷ rest) × Good r × (drop u text ≡ text_of rest) × All Proper rest
+    pub form_read : (fs : List Outer) (r : R) (u : ℕ) → AllByRecursion Proper fs → drop at text ≡ text_of fs → form_at format text at ≡ Ok (r, u) → (rest : List Outer) × (fs ≡ codec.form r ∷ rest) × Good r × (drop u text ≡ text_of rest) × AllByRecursion Proper rest
     unfolding judge_next
     form_read fs r u p e h = by fs p e (sym (reads_forms format.head format.fields format.empty format.fill codec.lettered fs text at p e) ∙ h)
       where
-        by : (gs : List Outer) → All Proper gs → drop at text ≡ text_of gs → judge_next format.head format.fields format.empty format.fill gs at ≡ Ok (r, u) → (rest : List Outer) × (gs ≡ codec.form r ∷ rest) × Good r × (drop u text ≡ text_of rest) × All Proper rest
+        by : (gs : List Outer) → AllByRecursion Proper gs → drop at text ≡ text_of gs → judge_next format.head format.fields format.empty format.fill gs at ≡ Ok (r, u) → (rest : List Outer) × (gs ≡ codec.form r ∷ rest) × Good r × (drop u text ≡ text_of rest) × AllByRecursion Proper rest
         by [] q f g = absurd (err_ok (r, u) (WrongForm at) g)
         by (g ∷ gs) q f k =
             let first = one_back g r at u q.0 k in
             let end = form_end text format.head format.fields format.empty format.fill g r at u k in
             (gs, ap (λ o. o ∷ gs) first.0, first.1, ap (λ n. drop n text) end ∙ behind_all text at (outer_text g) (text_of gs) f, q.1)
 
-    pub form_written : (r : R) (rest : List Outer) → Good r → All Proper rest → drop at text ≡ text_of (codec.form r ∷ rest) → (u : ℕ) × (form_at format text at ≡ Ok (r, u)) × (drop u text ≡ text_of rest)
+    pub form_written : (r : R) (rest : List Outer) → Good r → AllByRecursion Proper rest → drop at text ≡ text_of (codec.form r ∷ rest) → (u : ℕ) × (form_at format text at ≡ Ok (r, u)) × (drop u text ≡ text_of rest)
     unfolding judge_next
     form_written r rest good p e =
         let read = one_ahead r at good.0 in

@@ -1,7 +1,7 @@
 -- From a day that passes the checks to what is read of its writing.
 use Rattle.std.proofs.Common.{◌≡◌, ℕ, suc, ◌+◌, ◌<◌, ◌≤◌, Bool, true, false, ◌&&◌, ◌||◌, leb, List, [], ◌∷◌, ◌++◌, length, ℤ, pos, negsuc, Some, None, Option, sym, refl, ap, ◌∙◌, subst, arith, lit<}
 use lib.Signed.{le_z}
-use Rattle.std.specs.List.{AllByRecursion as All}
+use Rattle.std.specs.List.{AllByRecursion}
 use Rattle.std.proofs.lemmas.Int.{ints}
 use Rattle.std.proofs.lemmas.Bool.{and_parts, lt-leb}
 use Rattle.terms.specs.Cards.{within, rates_fit, limits_fit, future_fits}
@@ -25,12 +25,12 @@ use Rattle.load.proofs.InRange.{field_in_lem, name_in}
 -- ---- what no item of a list fails
 
 module _ {X : Type 0} (test : ℕ → X → Bool) (P : X → Type 0) (most : ℕ) (h : (k : ℕ) (x : X) → k < most → test k x ≡ true → P x) where
-  none_all : (i : ℕ) (xs : List X) → i + length xs ≤ most → failing test i xs ≡ None → All P xs
+  none_all : (i : ℕ) (xs : List X) → i + length xs ≤ most → failing test i xs ≡ None → AllByRecursion P xs
   unfolding failing
   none_all i [] few e = tt
   none_all i (x ∷ xs) few e = by (test i x) refl e (λ f. none_all (suc i) xs (omega arith) f)
     where
-      by : (b : Bool) → test i x ≡ b → ◌≡◌ {A = Option ℕ} (elim b [ true ↦ failing test (suc i) xs | false ↦ Some i ]) None → (failing test (suc i) xs ≡ None → All P xs) → All P (x ∷ xs)
+      by : (b : Bool) → test i x ≡ b → ◌≡◌ {A = Option ℕ} (elim b [ true ↦ failing test (suc i) xs | false ↦ Some i ]) None → (failing test (suc i) xs ≡ None → AllByRecursion P xs) → AllByRecursion P (x ∷ xs)
       by true t f more = (h i x (omega arith) t, more f)
       by false t f more = absurd (some_is_none i f)
 
@@ -133,22 +133,22 @@ held_good lines h few name net price =
 pub cash_good : (n : ℤ) → within (pos 0) (pos 100000000000000) n ≡ true → Good cash_format cash_codec n
 cash_good n e = (((e, tt), tt), ((lit< tt, refl), (((lit< tt, refl), (field_in_lem (pos 0) (pos 100000000000000) n (omega (arith, ints)) (omega (arith, ints)) e, tt)), tt)))
 
-pub orders_good : (os : List Order) → All OrderFits os → All (Good order_format order_codec) os
+pub orders_good : (os : List Order) → AllByRecursion OrderFits os → AllByRecursion (Good order_format order_codec) os
 orders_good [] f = tt
 orders_good (o ∷ os) f = ((tt, ((lit< tt, refl), (((lit< tt, refl), (f.0.0, tt)), (((lit< tt, refl), (f.0.1, tt)), (((lit< tt, refl), (f.0.2, tt)), tt))))), orders_good os f.1)
 
 -- ---- lists of cards that fit
 
-pub families_good : (fs : List Family) → failing (λ place. family_fits) 0 fs ≡ None → All (Good family_format family_codec) fs
+pub families_good : (fs : List Family) → failing (λ place. family_fits) 0 fs ≡ None → AllByRecursion (Good family_format family_codec) fs
 families_good fs e = none_all (λ place. family_fits) (Good family_format family_codec) (0 + length fs) (λ _ f _ t. family_good f t) 0 fs (omega arith) e
 
-pub baskets_good : (families : ℕ) (bs : List Basket) → families ≤ 16 → failing (λ place. basket_fits families) 0 bs ≡ None → All (Good basket_format basket_codec) bs
+pub baskets_good : (families : ℕ) (bs : List Basket) → families ≤ 16 → failing (λ place. basket_fits families) 0 bs ≡ None → AllByRecursion (Good basket_format basket_codec) bs
 baskets_good families bs few e = none_all (λ place. basket_fits families) (Good basket_format basket_codec) (0 + length bs) (λ _ b _ t. basket_good families b few t) 0 bs (omega arith) e
 
-pub months_good : (baskets : ℕ) (ms : List Month) → baskets ≤ 16 → failing (λ place. month_fits baskets) 0 ms ≡ None → All (Good month_format month_codec) ms
+pub months_good : (baskets : ℕ) (ms : List Month) → baskets ≤ 16 → failing (λ place. month_fits baskets) 0 ms ≡ None → AllByRecursion (Good month_format month_codec) ms
 months_good baskets ms few e = none_all (λ place. month_fits baskets) (Good month_format month_codec) (0 + length ms) (λ _ m _ t. month_good baskets m few t) 0 ms (omega arith) e
 
-pub futures_good : (months : ℕ) (ls : List Line) → months ≤ 16 → failing (line_fits months (length ls)) 0 ls ≡ None → All (Good future_format future_codec) ls
+pub futures_good : (months : ℕ) (ls : List Line) → months ≤ 16 → failing (line_fits months (length ls)) 0 ls ≡ None → AllByRecursion (Good future_format future_codec) ls
 futures_good months ls few e = none_all (line_fits months (length ls)) (Good future_format future_codec) (length ls) one 0 ls (omega arith) e
   where
     one : (k : ℕ) (l : Line) → k < length ls → line_fits months (length ls) k l ≡ true → Good future_format future_codec l
@@ -157,15 +157,15 @@ futures_good months ls few e = none_all (line_fits months (length ls)) (Good fut
         let future : future_fits l ≡ true = sym (ap (λ b. b || future_fits l) (lt-leb (length ls) k less)) ∙ p.1 in
         future_good months l few p.0 future
 
-pub options_good : (months futures i : ℕ) (ls : List Line) → months ≤ 16 → All IsOption ls → failing (line_fits months futures) i ls ≡ None → All (Good option_format option_codec) ls
+pub options_good : (months futures i : ℕ) (ls : List Line) → months ≤ 16 → AllByRecursion IsOption ls → failing (line_fits months futures) i ls ≡ None → AllByRecursion (Good option_format option_codec) ls
 options_good months futures i ls few are e =
     both ls are (none_all (line_fits months futures) (λ l. name_fits months l.month ≡ true) (i + length ls) (λ k l _ t. (and_parts (name_fits months l.month) (leb futures k || future_fits l) t).0) i ls (omega arith) e)
   where
-    both : (ls : List Line) → All IsOption ls → All (λ l. name_fits months l.month ≡ true) ls → All (Good option_format option_codec) ls
+    both : (ls : List Line) → AllByRecursion IsOption ls → AllByRecursion (λ l. name_fits months l.month ≡ true) ls → AllByRecursion (Good option_format option_codec) ls
     both [] f g = tt
     both (l ∷ ls) f g = (option_good months l few g.0 f.0, both ls f.1 g.1)
 
-pub records_good : (lines : ℕ) (all hs : List Held) → lines ≤ 16 → failing (held_fits lines all) 0 hs ≡ None → All (Good held_format held_codec) hs
+pub records_good : (lines : ℕ) (all hs : List Held) → lines ≤ 16 → failing (held_fits lines all) 0 hs ≡ None → AllByRecursion (Good held_format held_codec) hs
 records_good lines all hs few e = none_all (held_fits lines all) (Good held_format held_codec) (0 + length hs) one 0 hs (omega arith) e
   where
     one : (k : ℕ) (h : Held) → k < 0 + length hs → held_fits lines all k h ≡ true → Good held_format held_codec h

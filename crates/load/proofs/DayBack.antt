@@ -1,6 +1,6 @@
 -- From a day that was read to its writing.
 use Rattle.std.proofs.Common.{◌≡◌, ℕ, ◌+◌, ◌-◌, ◌*◌, ◌≤◌, Bool, true, ◌&&◌, ltb, leb, List, [], ◌∷◌, ◌++◌, map, length, drop, ℤ, pos, None, Ok, sym, refl, ap, ◌∙◌, subst, append-nil, arith, length-append}
-use Rattle.std.specs.List.{AllByRecursion as All}
+use Rattle.std.specs.List.{AllByRecursion}
 use Rattle.std.proofs.lemmas.List.{drop_all}
 use Rattle.std.proofs.lemmas.Bool.{ltb-true, leb-true, le-leb, eq-eqb}
 use Rattle.terms.specs.Cards.{within}
@@ -29,7 +29,7 @@ use Rattle.load.proofs.Back.{Good, all_fit, any_back, form_read}
 use Rattle.load.proofs.RowsBack.{rows_read}
 
 -- at least one form of a kind
-pub some_back : {R : Type 0} (format : Format R) (codec : Codec format) (text : List ℕ) (at room : ℕ) (fs : List Outer) (xs : List R) (u : ℕ) → All Proper fs → drop at text ≡ text_of fs → some_at format text room at ≡ Ok (xs, u) → (rest : List Outer) × (fs ≡ map codec.form xs ++ rest) × (1 ≤ length xs) × (length xs ≤ room) × (drop u text ≡ text_of rest) × All Proper rest × All (Good format codec) xs
+pub some_back : {R : Type 0} (format : Format R) (codec : Codec format) (text : List ℕ) (at room : ℕ) (fs : List Outer) (xs : List R) (u : ℕ) → AllByRecursion Proper fs → drop at text ≡ text_of fs → some_at format text room at ≡ Ok (xs, u) → (rest : List Outer) × (fs ≡ map codec.form xs ++ rest) × (1 ≤ length xs) × (length xs ≤ room) × (drop u text ≡ text_of rest) × AllByRecursion Proper rest × AllByRecursion (Good format codec) xs
 unfolding some_in
 some_back format codec text at room fs xs u p e h =
     let w = then_ok_parts (any_at format text room at) (λ rs q. given (ltb 0 (length rs)) (WrongForm q) (Ok (rs, q))) xs u h in
@@ -50,7 +50,7 @@ pub record CardsRead (x : List Family × List Basket × List Month) (fs : List O
   pub rest : List Outer
   pub whole : fs ≡ map family_form x.0 ++ (map basket_form x.1 ++ (map month_form x.2 ++ rest))
   pub behind : drop u text ≡ text_of rest
-  pub proper : All Proper rest
+  pub proper : AllByRecursion Proper rest
   pub some_families : 1 ≤ length x.0
   pub few_families : length x.0 ≤ 2
   pub some_baskets : 1 ≤ length x.1
@@ -58,7 +58,7 @@ pub record CardsRead (x : List Family × List Basket × List Month) (fs : List O
   pub some_months : 1 ≤ length x.2
   pub few_months : length x.2 ≤ 8
 
-pub cards_back : (text : List ℕ) (at : ℕ) (fs : List Outer) (x : List Family × List Basket × List Month) (u : ℕ) → All Proper fs → drop at text ≡ text_of fs → cards_in wanted text at ≡ Ok (x, u) → CardsRead x fs text u
+pub cards_back : (text : List ℕ) (at : ℕ) (fs : List Outer) (x : List Family × List Basket × List Month) (u : ℕ) → AllByRecursion Proper fs → drop at text ≡ text_of fs → cards_in wanted text at ≡ Ok (x, u) → CardsRead x fs text u
 unfolding cards_in
 cards_back text at fs x u p e h =
     let a = then_ok_parts (some_at family_format text 2 at) _ x u h in
@@ -85,12 +85,12 @@ pub record LinesRead (x : List Line × List Line) (fs : List Outer) (text : List
   pub rest : List Outer
   pub whole : fs ≡ map future_form x.0 ++ (map option_form x.1 ++ rest)
   pub behind : drop u text ≡ text_of rest
-  pub proper : All Proper rest
+  pub proper : AllByRecursion Proper rest
   pub some_futures : 1 ≤ length x.0
   pub few_lines : length x.0 + length x.1 ≤ 16
-  pub options : All IsOption x.1
+  pub options : AllByRecursion IsOption x.1
 
-pub lines_back : (text : List ℕ) (at : ℕ) (fs : List Outer) (x : List Line × List Line) (u : ℕ) → All Proper fs → drop at text ≡ text_of fs → lines_in wanted text at ≡ Ok (x, u) → LinesRead x fs text u
+pub lines_back : (text : List ℕ) (at : ℕ) (fs : List Outer) (x : List Line × List Line) (u : ℕ) → AllByRecursion Proper fs → drop at text ≡ text_of fs → lines_in wanted text at ≡ Ok (x, u) → LinesRead x fs text u
 unfolding lines_in
 lines_back text at fs x u p e h =
     let a = then_ok_parts (some_at future_format text 16 at) _ x u h in
@@ -115,13 +115,13 @@ pub record ContractsRead (half : Half) (x : List Line × List Line × List ℤ) 
   pub rest : List Outer
   pub whole : fs ≡ map future_form x.0 ++ (map option_form x.1 ++ (row_forms (length x.0) half (7 * length x.1) 0 x.2 ++ rest))
   pub behind : drop u text ≡ text_of rest
-  pub proper : All Proper rest
+  pub proper : AllByRecursion Proper rest
   pub some_futures : 1 ≤ length x.0
   pub few_lines : length x.0 + length x.1 ≤ 16
-  pub options : All IsOption x.1
+  pub options : AllByRecursion IsOption x.1
   pub prices : RowsFit half (7 * length x.1) 0 x.2
 
-pub contracts_back : (half : Half) (text : List ℕ) (at : ℕ) (fs : List Outer) (x : List Line × List Line × List ℤ) (u : ℕ) → All Proper fs → drop at text ≡ text_of fs → contracts_in half wanted text at ≡ Ok (x, u) → ContractsRead half x fs text u
+pub contracts_back : (half : Half) (text : List ℕ) (at : ℕ) (fs : List Outer) (x : List Line × List Line × List ℤ) (u : ℕ) → AllByRecursion Proper fs → drop at text ≡ text_of fs → contracts_in half wanted text at ≡ Ok (x, u) → ContractsRead half x fs text u
 unfolding contracts_in
 contracts_back half text at fs x u p e h =
     let a = then_ok_parts (lines_in wanted text at) _ x u h in
@@ -143,13 +143,13 @@ contracts_back half text at fs x u p e h =
 record BookRead (x : List Held × List Order) (fs : List Outer) : Type 0 where
   pub whole : fs ≡ map held_form x.0 ++ map order_form x.1
   pub few_held : length x.0 ≤ 16
-  pub orders : All OrderFits x.1
+  pub orders : AllByRecursion OrderFits x.1
 
-orders_fit : (os : List Order) → All (Good order_format order_codec) os → All OrderFits os
+orders_fit : (os : List Order) → AllByRecursion (Good order_format order_codec) os → AllByRecursion OrderFits os
 orders_fit [] g = tt
 orders_fit (o ∷ os) g = let inners = g.0.1.1 in ((inners.0.1.0, inners.1.0.1.0, inners.1.1.0.1.0), orders_fit os g.1)
 
-book_back : (text : List ℕ) (at : ℕ) (fs : List Outer) (x : List Held × List Order) (u : ℕ) → All Proper fs → drop at text ≡ text_of fs → book_in wanted text at ≡ Ok (x, u) → BookRead x fs
+book_back : (text : List ℕ) (at : ℕ) (fs : List Outer) (x : List Held × List Order) (u : ℕ) → AllByRecursion Proper fs → drop at text ≡ text_of fs → book_in wanted text at ≡ Ok (x, u) → BookRead x fs
 unfolding book_in end_in
 book_back text at fs x u p e h =
     let a = then_ok_parts (any_at held_format text 16 at) _ x u h in
@@ -178,13 +178,13 @@ pub record DayRead (day : Day) (fs : List Outer) : Type 0 where
   pub few_months : length day.months ≤ 8
   pub some_futures : 1 ≤ length day.futures
   pub few_lines : length day.futures + length day.options ≤ 16
-  pub options : All IsOption day.options
+  pub options : AllByRecursion IsOption day.options
   pub prices : RowsFit day.half (7 * length day.options) 0 day.prices
   pub cash : within (pos 0) (pos 100000000000000) day.cash ≡ true
   pub few_held : length day.held ≤ 16
-  pub orders : All OrderFits day.orders
+  pub orders : AllByRecursion OrderFits day.orders
 
-pub day_read : (text : List ℕ) (fs : List Outer) (day : Day) (end : ℕ) → All Proper fs → text ≡ text_of fs → day_in wanted text ≡ Ok (day, end) → DayRead day fs
+pub day_read : (text : List ℕ) (fs : List Outer) (day : Day) (end : ℕ) → AllByRecursion Proper fs → text ≡ text_of fs → day_in wanted text ≡ Ok (day, end) → DayRead day fs
 unfolding day_in
 day_read text fs day end p e h =
     let a = then_ok_parts (form_at grid_format text 0) _ day end h in

@@ -1,6 +1,6 @@
 -- Of the forms of a well-formed text, read in their order, only forms and numbers are refused.
 use Rattle.std.proofs.Common.{◌≡◌, ℕ, ◌-◌, ◌*◌, ltb, leb, List, [], length, drop, sym, subst}
-use Rattle.std.specs.List.{AllByRecursion as All}
+use Rattle.std.specs.List.{AllByRecursion}
 use Rattle.terms.specs.declared.half.Half.{Half}
 use Rattle.terms.specs.declared.refusal.Refusal.TheVariants.{WrongForm}
 use Rattle.text.specs.Grammar.{Outer, Proper, text_of}
@@ -14,7 +14,7 @@ use Rattle.load.proofs.Back.{any_back, form_read}
 use Rattle.load.proofs.DayBack.{some_back, cards_back, lines_back, contracts_back}
 use Rattle.load.proofs.Faults.{Formal, ok_formal, given_formal, then_formal, wrong, next_formal, list_formal, rows_formal}
 
-module _ {R : Type 0} (format : Format R) (codec : Codec format) (text : List ℕ) (at : ℕ) (fs : List Outer) (p : All Proper fs) (e : drop at text ≡ text_of fs) where
+module _ {R : Type 0} (format : Format R) (codec : Codec format) (text : List ℕ) (at : ℕ) (fs : List Outer) (p : AllByRecursion Proper fs) (e : drop at text ≡ text_of fs) where
   form_formal : Formal (form_at format text at)
   form_formal = subst Formal (sym (reads_forms format.head format.fields format.empty format.fill codec.lettered fs text at p e)) (next_formal format.head format.fields format.empty format.fill fs at)
 
@@ -26,7 +26,7 @@ module _ {R : Type 0} (format : Format R) (codec : Codec format) (text : List �
   some_formal room = then_formal _ _ (any_formal room) (λ rs q _. given_formal (ltb 0 (length rs)) (WrongForm q) _ (wrong q) (ok_formal rs q))
 
 module _ (text : List ℕ) where
-  cards_formal : (at : ℕ) (fs : List Outer) → All Proper fs → drop at text ≡ text_of fs → Formal (cards_in wanted text at)
+  cards_formal : (at : ℕ) (fs : List Outer) → AllByRecursion Proper fs → drop at text ≡ text_of fs → Formal (cards_in wanted text at)
   unfolding cards_in
   cards_formal at fs p e =
       then_formal _ _ (some_formal family_format family_codec text at fs p e 2) (λ xs q x.
@@ -35,14 +35,14 @@ module _ (text : List ℕ) where
       let baskets = some_back basket_format basket_codec text q 4 families.0 ys u families.5 families.4 y in
       then_formal _ _ (some_formal month_format month_codec text u baskets.0 baskets.5 baskets.4 8) (λ zs v _. ok_formal (xs, ys, zs) v)))
 
-  lines_formal : (at : ℕ) (fs : List Outer) → All Proper fs → drop at text ≡ text_of fs → Formal (lines_in wanted text at)
+  lines_formal : (at : ℕ) (fs : List Outer) → AllByRecursion Proper fs → drop at text ≡ text_of fs → Formal (lines_in wanted text at)
   unfolding lines_in
   lines_formal at fs p e =
       then_formal _ _ (some_formal future_format future_codec text at fs p e 16) (λ xs q x.
       let futures = some_back future_format future_codec text at 16 fs xs q p e x in
       then_formal _ _ (any_formal option_format option_codec text q futures.0 futures.5 futures.4 (16 - length xs)) (λ ys u _. ok_formal (xs, ys) u))
 
-  contracts_formal : (half : Half) (at : ℕ) (fs : List Outer) → All Proper fs → drop at text ≡ text_of fs → Formal (contracts_in half wanted text at)
+  contracts_formal : (half : Half) (at : ℕ) (fs : List Outer) → AllByRecursion Proper fs → drop at text ≡ text_of fs → Formal (contracts_in half wanted text at)
   unfolding contracts_in
   contracts_formal half at fs p e =
       then_formal _ _ (lines_formal at fs p e) (λ x q read.
@@ -50,7 +50,7 @@ module _ (text : List ℕ) where
       let rows = subst Formal (sym (reads_rows (length x.0) half lines.rest text 1785 (7 * length x.1) 0 [] q lines.proper lines.behind)) (rows_formal (length x.0) half 1785 (7 * length x.1) 0 [] lines.rest q) in
       then_formal _ _ rows (λ ps u _. ok_formal (x.0, x.1, ps) u))
 
-  book_formal : (at : ℕ) (fs : List Outer) → All Proper fs → drop at text ≡ text_of fs → Formal (book_in wanted text at)
+  book_formal : (at : ℕ) (fs : List Outer) → AllByRecursion Proper fs → drop at text ≡ text_of fs → Formal (book_in wanted text at)
   unfolding book_in end_in
   book_formal at fs p e =
       then_formal _ _ (any_formal held_format held_codec text at fs p e 16) (λ xs q x.
@@ -58,7 +58,7 @@ module _ (text : List ℕ) where
       then_formal _ _ (any_formal order_format order_codec text q held.0 held.5 held.4 2000) (λ ys u _.
       then_formal _ _ (given_formal (leb (length text) u) (WrongForm u) _ (wrong u) (ok_formal tt u)) (λ _ v _. ok_formal (xs, ys) v)))
 
-  pub day_formal : (fs : List Outer) → All Proper fs → text ≡ text_of fs → Formal (day_in wanted text)
+  pub day_formal : (fs : List Outer) → AllByRecursion Proper fs → text ≡ text_of fs → Formal (day_in wanted text)
   unfolding day_in
   day_formal fs p e =
       then_formal _ _ (form_formal grid_format grid_codec text 0 fs p e) (λ half q a.

@@ -1,6 +1,6 @@
 -- The writing of a day that passes the checks is read as that day.
 use Rattle.std.proofs.Common.{◌≡◌, ℕ, zero, suc, ◌+◌, ◌-◌, ◌*◌, ◌≤◌, true, false, leb, List, [], ◌∷◌, ◌++◌, map, length, take, drop, ℤ, pos, negsuc, Ok, codes, sym, refl, ap, ◌∙◌, subst, arith, lit<, lit≤, length-append}
-use Rattle.std.specs.List.{AllByRecursion as All}
+use Rattle.std.specs.List.{AllByRecursion}
 use Rattle.std.specs.Fmt.{signed_decimal}
 use Rattle.std.proofs.lemmas.List.{length-drop, take-append-drop}
 use Rattle.std.proofs.lemmas.Bool.{and_parts, leb-true, lt-ltb, le-leb}
@@ -32,15 +32,15 @@ use Rattle.load.proofs.DayAhead.{none_both, families_good, baskets_good, months_
 -- ---- a day that can be written
 
 pub record Ready (day : Day) : Type 0 where
-  pub families : All (Good family_format family_codec) day.families
-  pub baskets : All (Good basket_format basket_codec) day.baskets
-  pub months : All (Good month_format month_codec) day.months
-  pub futures : All (Good future_format future_codec) day.futures
-  pub options : All (Good option_format option_codec) day.options
+  pub families : AllByRecursion (Good family_format family_codec) day.families
+  pub baskets : AllByRecursion (Good basket_format basket_codec) day.baskets
+  pub months : AllByRecursion (Good month_format month_codec) day.months
+  pub futures : AllByRecursion (Good future_format future_codec) day.futures
+  pub options : AllByRecursion (Good option_format option_codec) day.options
   pub prices : RowsFit day.half (7 * length day.options) 0 day.prices
   pub cash : Good cash_format cash_codec day.cash
-  pub held : All (Good held_format held_codec) day.held
-  pub orders : All (Good order_format order_codec) day.orders
+  pub held : AllByRecursion (Good held_format held_codec) day.held
+  pub orders : AllByRecursion (Good order_format order_codec) day.orders
   pub some_families : 1 ≤ length day.families
   pub few_families : length day.families ≤ 2
   pub some_baskets : 1 ≤ length day.baskets
@@ -50,7 +50,7 @@ pub record Ready (day : Day) : Type 0 where
   pub some_futures : 1 ≤ length day.futures
   pub few_lines : length day.futures + length day.options ≤ 16
   pub few_held : length day.held ≤ 16
-  pub orders_fit : All OrderFits day.orders
+  pub orders_fit : AllByRecursion OrderFits day.orders
 
 range : (low high n : ℕ) → within (pos low) (pos high) (pos n) ≡ true → (low ≤ n) × (n ≤ high)
 range low high n e = let p = and_parts (leb low n) (leb n high) e in (leb-true low n p.0, leb-true n high p.1)
@@ -118,7 +118,7 @@ order_long o f =
     let c = signed_some o.price f.2 in
     simp length-append (omega arith)
 
-orders_long : (os : List Order) → All OrderFits os → 35 * length os ≤ length (text_of (map order_form os ++ []))
+orders_long : (os : List Order) → AllByRecursion OrderFits os → 35 * length os ≤ length (text_of (map order_form os ++ []))
 orders_long [] f = omega arith
 orders_long (o ∷ os) f = omega (arith, order_long o f.0, orders_long os f.1, length-append (outer_text (order_form o)) (text_of (map order_form os ++ [])))
 
@@ -130,7 +130,7 @@ rows_few half (suc left) index ps fit =
 
 -- ---- reading it
 
-some_ahead : {R : Type 0} (format : Format R) (codec : Codec format) (text : List ℕ) (at room : ℕ) (ys : List R) (rest : List Outer) → All (Good format codec) ys → 1 ≤ length ys → length ys ≤ room → All Proper rest → Other format.head rest → drop at text ≡ text_of (map codec.form ys ++ rest) → (u : ℕ) × (Ok (ys, u) ≡ some_at format text room at) × (drop u text ≡ text_of rest)
+some_ahead : {R : Type 0} (format : Format R) (codec : Codec format) (text : List ℕ) (at room : ℕ) (ys : List R) (rest : List Outer) → AllByRecursion (Good format codec) ys → 1 ≤ length ys → length ys ≤ room → AllByRecursion Proper rest → Other format.head rest → drop at text ≡ text_of (map codec.form ys ++ rest) → (u : ℕ) × (Ok (ys, u) ≡ some_at format text room at) × (drop u text ≡ text_of rest)
 unfolding some_in
 some_ahead format codec text at room ys rest good some few p other e =
     let read = any_ahead format codec text at room ys rest good p few other e in
@@ -178,31 +178,31 @@ module _ (day : Day) (r : Ready day) where
   abbrev pub f1 : List Outer
   f1 = map family_form day.families ++ f2
 
-  p9 : All Proper f9
+  p9 : AllByRecursion Proper f9
   p9 = all_proper order_format order_codec day.orders [] r.orders tt
 
-  p8 : All Proper f8
+  p8 : AllByRecursion Proper f8
   p8 = all_proper held_format held_codec day.held f9 r.held p9
 
-  p7 : All Proper f7
+  p7 : AllByRecursion Proper f7
   p7 = (r.cash.1, p8)
 
-  p6 : All Proper f6
+  p6 : AllByRecursion Proper f6
   p6 = rows_proper (length day.futures) day.half (7 * length day.options) 0 day.prices f7 (let few = r.few_lines in omega arith) r.prices p7
 
-  p5 : All Proper f5
+  p5 : AllByRecursion Proper f5
   p5 = all_proper option_format option_codec day.options f6 r.options p6
 
-  p4 : All Proper f4
+  p4 : AllByRecursion Proper f4
   p4 = all_proper future_format future_codec day.futures f5 r.futures p5
 
-  p3 : All Proper f3
+  p3 : AllByRecursion Proper f3
   p3 = all_proper month_format month_codec day.months f4 r.months p4
 
-  p2 : All Proper f2
+  p2 : AllByRecursion Proper f2
   p2 = all_proper basket_format basket_codec day.baskets f3 r.baskets p3
 
-  pub p1 : All Proper f1
+  pub p1 : AllByRecursion Proper f1
   p1 = all_proper family_format family_codec day.families f2 r.families p2
 
   behind_options : (head : List ℕ) → same head (codes "row") ≡ false → same head (codes "cash") ≡ false → Other head f6

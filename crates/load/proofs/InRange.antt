@@ -2,7 +2,7 @@
 use Rattle.std.proofs.Common.{◌≡◌, ℕ, zero, suc, ◌+◌, ◌/◌, ◌%◌, ◌≤◌, Bool, true, false, ltb, List, [], ◌∷◌, ◌++◌, take, drop, ℤ, pos, negsuc, ◌≤ℤ◌, refl, div-le_self, arith, lit<}
 use native.Mathlib.Nat.{mod-le}
 use lib.Signed.{le_z, lt_z}
-use Rattle.std.specs.List.{AllByRecursion as All}
+use Rattle.std.specs.List.{AllByRecursion}
 use Rattle.std.proofs.lemmas.Int.{ints}
 use Rattle.std.proofs.lemmas.Bool.{and_parts}
 use Rattle.terms.specs.Cards.{within}
@@ -39,11 +39,11 @@ price_in column n e = by (ltb column 3) e
     by true f = field_in_lem (pos 0) (pos 10000000) n (omega (arith, ints)) (omega (arith, ints)) f
     by false f = field_in_lem (negsuc 9999999) (pos 10000000) n (omega (arith, ints)) (omega (arith, ints)) f
 
-prices_in : (column : ℕ) (ns : List ℤ) → All (λ n. allows (price_allowed column) n ≡ true) ns → All InRange ns
+prices_in : (column : ℕ) (ns : List ℤ) → AllByRecursion (λ n. allows (price_allowed column) n ≡ true) ns → AllByRecursion InRange ns
 prices_in column [] f = tt
 prices_in column (n ∷ ns) f = (price_in column n f.0, prices_in column ns f.1)
 
-pub rows_proper : (first : ℕ) (half : Half) (left index : ℕ) (ps : List ℤ) (rest : List Outer) → first + (index + left) ≤ 999999 → RowsFit half left index ps → All Proper rest → All Proper (row_forms first half left index ps ++ rest)
+pub rows_proper : (first : ℕ) (half : Half) (left index : ℕ) (ps : List ℤ) (rest : List Outer) → first + (index + left) ≤ 999999 → RowsFit half left index ps → AllByRecursion Proper rest → AllByRecursion Proper (row_forms first half left index ps ++ rest)
 rows_proper first half zero index ps rest few fit p = p
 rows_proper first half (suc left) index ps rest few fit p =
     let line = count_in (first + index / 7) (omega (arith, div-le_self index 7)) in

@@ -1,7 +1,7 @@
 -- From rows that were read to how they were written, and ahead again.
 use Rattle.std.proofs.Common.{◌≡◌, ℕ, zero, suc, ◌+◌, ◌/◌, ◌%◌, ◌≤◌, true, leb, List, [], ◌∷◌, ◌++◌, length, take, drop, ℤ, pos, negsuc, Ok, codes, sym, refl, ap, ◌∙◌, subst, append_assoc, append-nil, arith, length-append}
 use mathlib.Core.List.{append_cancel_left}
-use Rattle.std.specs.List.{AllByRecursion as All}
+use Rattle.std.specs.List.{AllByRecursion}
 use Rattle.std.proofs.lemmas.List.{take_at, drop_at, take-append-drop}
 use Rattle.std.proofs.lemmas.Bool.{eqb-true, eq-eqb, le-leb, false≢true}
 use Rattle.terms.specs.Halves.{points}
@@ -31,11 +31,11 @@ added_all : (k : ℕ) (v : Vec k) (index : ℕ) (ps : List ℤ) → fill_vec add
 added_all zero v index ps = sym (append-nil ps)
 added_all (suc k) v index ps = added_all k v.1 (index + 1) (ps ++ (v.0 ∷ [])) ∙ append_assoc ps (v.0 ∷ []) (listed k v.1)
 
-each_all : (allowed : Allowed) (k : ℕ) (v : Vec k) → Each allowed k v → All (λ n. allows allowed n ≡ true) (listed k v)
+each_all : (allowed : Allowed) (k : ℕ) (v : Vec k) → Each allowed k v → AllByRecursion (λ n. allows allowed n ≡ true) (listed k v)
 each_all allowed zero v f = tt
 each_all allowed (suc k) v f = (f.0, each_all allowed k v.1 f.1)
 
-vec_of : (allowed : Allowed) (k : ℕ) (ns : List ℤ) → length ns ≡ k → All (λ n. allows allowed n ≡ true) ns → (v : Vec k) × (listed k v ≡ ns) × Each allowed k v
+vec_of : (allowed : Allowed) (k : ℕ) (ns : List ℤ) → length ns ≡ k → AllByRecursion (λ n. allows allowed n ≡ true) ns → (v : Vec k) × (listed k v ≡ ns) × Each allowed k v
 vec_of allowed zero [] e f = (tt, refl, tt)
 vec_of allowed zero (n ∷ ns) e f = absurd (omega arith)
 vec_of allowed (suc k) [] e f = absurd (omega arith)
@@ -115,9 +115,9 @@ module _ (first : ℕ) (half : Half) where
     pub all : xs ≡ ps ++ prices
     pub fit : RowsFit half left index prices
     pub place : u ≡ at + length (text_of (row_forms first half left index prices))
-    pub proper : All Proper rest
+    pub proper : AllByRecursion Proper rest
 
-  judged_back : (room left index : ℕ) (ps : List ℤ) (fs : List Outer) (at : ℕ) (xs : List ℤ) (u : ℕ) → All Proper fs → judge_rows first half room left index ps fs at ≡ Ok (xs, u) → Taken room left index ps fs at xs u
+  judged_back : (room left index : ℕ) (ps : List ℤ) (fs : List Outer) (at : ℕ) (xs : List ℤ) (u : ℕ) → AllByRecursion Proper fs → judge_rows first half room left index ps fs at ≡ Ok (xs, u) → Taken room left index ps fs at xs u
   unfolding judge_rows
   judged_back room zero index ps fs at xs u p h =
       let q = ok_parts ps xs at u h in
@@ -142,7 +142,7 @@ module _ (first : ℕ) (half : Half) where
         rest = taken.rest;
         whole = λ i. form-is i ∷ (taken.whole ∙ ap (λ l. l ++ taken.rest) forms-are) i;
         all = taken.all ∙ ap (λ l. l ++ taken.prices) row.2 ∙ append_assoc ps mine taken.prices;
-        fit = (ap length takes ∙ long, subst (All (λ n. allows (price_allowed column) n ≡ true)) (sym takes) (each_all (price_allowed column) k row.0 row.3), subst (RowsFit half left (index + 1)) (sym drops) taken.fit);
+        fit = (ap length takes ∙ long, subst (AllByRecursion (λ n. allows (price_allowed column) n ≡ true)) (sym takes) (each_all (price_allowed column) k row.0 row.3), subst (RowsFit half left (index + 1)) (sym drops) taken.fit);
         place = places u w.1 at _ _ _ _ _ taken.place end (ap (λ o. length (outer_text o)) form-is) (ap (λ l. length (text_of l)) forms-are) (length-append (outer_text (row_form line column (take k (mine ++ taken.prices)))) (text_of (row_forms first half left (index + 1) (drop k (mine ++ taken.prices)))));
         proper = taken.proper;
       }
@@ -168,7 +168,7 @@ module _ (first : ℕ) (half : Half) where
       )
 
   module _ (text : List ℕ) (at room left : ℕ) where
-    pub rows_read : (fs : List Outer) (xs : List ℤ) (u : ℕ) → All Proper fs → drop at text ≡ text_of fs → rows_in first half text room left 0 [] at ≡ Ok (xs, u) → (rest : List Outer) × (fs ≡ row_forms first half left 0 xs ++ rest) × RowsFit half left 0 xs × (drop u text ≡ text_of rest) × All Proper rest
+    pub rows_read : (fs : List Outer) (xs : List ℤ) (u : ℕ) → AllByRecursion Proper fs → drop at text ≡ text_of fs → rows_in first half text room left 0 [] at ≡ Ok (xs, u) → (rest : List Outer) × (fs ≡ row_forms first half left 0 xs ++ rest) × RowsFit half left 0 xs × (drop u text ≡ text_of rest) × AllByRecursion Proper rest
     rows_read fs xs u p e h =
         let taken = judged_back room left 0 [] fs at xs u p (sym (reads_rows first half fs text room left 0 [] at p e) ∙ h) in
         let same-prices = sym taken.all in
@@ -176,7 +176,7 @@ module _ (first : ℕ) (half : Half) where
         let behind = ap (λ n. drop n text) taken.place ∙ behind_all text at (text_of mine) (text_of taken.rest) (e ∙ ap text_of taken.whole ∙ text_append mine taken.rest) in
         (taken.rest, taken.whole ∙ ap (λ l. row_forms first half left 0 l ++ taken.rest) same-prices, subst (RowsFit half left 0) same-prices taken.fit, behind, taken.proper)
 
-    pub rows_written : (qs : List ℤ) (rest : List Outer) → RowsFit half left 0 qs → length qs ≤ room → All Proper (row_forms first half left 0 qs ++ rest) → drop at text ≡ text_of (row_forms first half left 0 qs ++ rest) → (u : ℕ) × (rows_in first half text room left 0 [] at ≡ Ok (qs, u)) × (drop u text ≡ text_of rest)
+    pub rows_written : (qs : List ℤ) (rest : List Outer) → RowsFit half left 0 qs → length qs ≤ room → AllByRecursion Proper (row_forms first half left 0 qs ++ rest) → drop at text ≡ text_of (row_forms first half left 0 qs ++ rest) → (u : ℕ) × (rows_in first half text room left 0 [] at ≡ Ok (qs, u)) × (drop u text ≡ text_of rest)
     rows_written qs rest fit few p e =
         let fs = row_forms first half left 0 qs ++ rest in
         let read = judged_ahead room left 0 [] qs rest at fit (omega arith) in

@@ -1,6 +1,6 @@
 -- How a day is written as a session file, and which days may be.
 use Rattle.std.specs.Prelude.{◌≡◌, ℕ, zero, suc, ◌+◌, ◌*◌, ◌/◌, ◌%◌, ◌≤◌, true, List, [], ◌∷◌, ◌++◌, map, length, take, drop, ℤ, pos, Ok, codes}
-use Rattle.std.specs.List.{AllByRecursion as All}
+use Rattle.std.specs.List.{AllByRecursion}
 use Rattle.terms.specs.Cards.{within}
 use Rattle.terms.specs.Halves.{half_size, points}
 use Rattle.terms.specs.declared.cards.Basket.{Basket}
@@ -107,7 +107,7 @@ abbrev pub RowsFit : Half → ℕ → ℕ → List ℤ → Type 0
 RowsFit half zero index prices = prices ≡ []
 RowsFit half (suc left) index prices =
     (length (take (points half) prices) ≡ points half)
-    × All (λ n. allows (price_allowed (index % 7)) n ≡ true) (take (points half) prices)
+    × AllByRecursion (λ n. allows (price_allowed (index % 7)) n ≡ true) (take (points half) prices)
     × RowsFit half left (index + 1) (drop (points half) prices)
 
 -- numbers of up to 15 digits
@@ -117,8 +117,8 @@ OrderFits o = InRange o.line × InRange o.net × InRange o.price
 pub record Passes (day : Day) : Type 0 where
   -- an account may begin with the cards and the held records: as many as there may be, each number in its field, each name of something, no line held twice
   pub cards : cards_judged (length (day.futures ++ day.options)) (cards_of day) day.held ≡ Ok (cards_of day)
-  pub options : All IsOption day.options
+  pub options : AllByRecursion IsOption day.options
   pub prices : RowsFit day.half (7 * length day.options) 0 day.prices
   pub cash : within (pos 0) (pos 100000000000000) day.cash ≡ true
   pub held : length day.held ≤ 16
-  pub orders : All OrderFits day.orders
+  pub orders : AllByRecursion OrderFits day.orders

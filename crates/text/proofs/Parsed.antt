@@ -1,6 +1,6 @@
 -- A text whose walk comes to the end of a line is the writing of forms: what may still come, for each state of the walk.
 use Rattle.std.proofs.Common.{◌≡◌, ℕ, suc, ◌+◌, ◌-◌, ◌^◌, ◌<◌, ◌≤◌, Bool, true, false, ◌&&◌, eqb, ltb, List, [], ◌∷◌, ◌++◌, length, ℤ, pos, negsuc, Some, None, decimal, Option, sym, refl, ap, ◌∙◌, subst, append_assoc, arith}
-use Rattle.std.specs.List.{flat_map, AllByRecursion as All}
+use Rattle.std.specs.List.{flat_map, AllByRecursion}
 use Rattle.std.specs.Char.{is_ascii_digit, is_ascii_lowercase}
 use Rattle.std.specs.Int.{is_in_range}
 use Rattle.std.specs.Str.{all_ascii_digits}
@@ -40,11 +40,11 @@ Closed bs = (rest : List ℕ) × WellFormed rest × (bs ≡ 10 ∷ rest)
 
 -- the text behind a head or an inner form: more inner forms, and the end of the line
 abbrev Forms : List ℕ → Type 0
-Forms bs = Then (List Inner) (All ProperInner) (flat_map (λ i. 32 ∷ inner_text i)) (λ r. (rest : List ℕ) × Closed rest × (r ≡ 41 ∷ rest)) bs
+Forms bs = Then (List Inner) (AllByRecursion ProperInner) (flat_map (λ i. 32 ∷ inner_text i)) (λ r. (rest : List ℕ) × Closed rest × (r ≡ 41 ∷ rest)) bs
 
 -- the text behind a head or a number: more numbers, and the inner form's closing bracket
 abbrev Numbers : List ℕ → Type 0
-Numbers bs = Then (List ℤ) (All InRange) (flat_map (λ n. 32 ∷ signed_decimal n)) (λ r. (rest : List ℕ) × Forms rest × (r ≡ 41 ∷ rest)) bs
+Numbers bs = Then (List ℤ) (AllByRecursion InRange) (flat_map (λ n. 32 ∷ signed_decimal n)) (λ r. (rest : List ℕ) × Forms rest × (r ≡ 41 ∷ rest)) bs
 
 abbrev Rest : State → List ℕ → Type 0
 Rest Line bs = WellFormed bs
@@ -87,7 +87,7 @@ no_letters Q bs q = record { what = []; rest = bs; proper = refl; goes = q; whol
 
 -- one more item behind a space, or none before the closing bracket
 module _ (X : Type 0) (P : X → Type 0) (text : X → List ℕ) (Q : List ℕ → Type 0) (bs : List ℕ) where
-  spaced : Then X P text (Then (List X) (All P) (flat_map (λ x. 32 ∷ text x)) Q) bs → Then (List X) (All P) (flat_map (λ x. 32 ∷ text x)) Q (32 ∷ bs)
+  spaced : Then X P text (Then (List X) (AllByRecursion P) (flat_map (λ x. 32 ∷ text x)) Q) bs → Then (List X) (AllByRecursion P) (flat_map (λ x. 32 ∷ text x)) Q (32 ∷ bs)
   spaced r =
       let f = r.goes in
       record {
@@ -98,7 +98,7 @@ module _ (X : Type 0) (P : X → Type 0) (text : X → List ℕ) (Q : List ℕ �
         whole = ap (λ l. 32 ∷ l) (r.whole ∙ ap (λ l. text r.what ++ l) f.whole) ∙ sym (append_assoc (32 ∷ text r.what) (flat_map (λ x. 32 ∷ text x) f.what) f.rest);
       }
 
-  no_more : Q bs → Then (List X) (All P) (flat_map (λ x. 32 ∷ text x)) Q bs
+  no_more : Q bs → Then (List X) (AllByRecursion P) (flat_map (λ x. 32 ∷ text x)) Q bs
   no_more q = record { what = []; rest = bs; proper = tt; goes = q; whole = refl }
 
 more_forms_lem : (b : ℕ) (bs : List ℕ) → Carries Forms b bs (more_forms b)

@@ -1,6 +1,6 @@
 -- The walk over the writing of forms comes to the end of a line.
 use Rattle.std.proofs.Common.{◌≡◌, ℕ, suc, ◌+◌, ◌≤◌, true, ltb, leb, List, [], ◌∷◌, ◌++◌, length, ℤ, pos, negsuc, Some, refl, ap, ◌∙◌, ⊎_elim, append_assoc, add-zero, arith}
-use Rattle.std.specs.List.{flat_map, AllByRecursion as All}
+use Rattle.std.specs.List.{flat_map, AllByRecursion}
 use Rattle.std.specs.Char.{is_ascii_digit, is_ascii_lowercase}
 use Rattle.std.specs.Int.{is_in_range}
 use Rattle.std.specs.Str.{all_ascii_digits}
@@ -101,7 +101,7 @@ written_number (negsuc n) bs w =
     rw front (record { state = r.state; comes = r.comes; more = r.more })
 
 -- numbers, each behind a space, and the bracket of an inner form
-after_numbers : (s : State) (ns : List ℤ) → MoreNumbers s → All InRange ns → after s (flat_map (λ n. 32 ∷ signed_decimal n) ns ++ (41 ∷ [])) ≡ Some InnerClosed
+after_numbers : (s : State) (ns : List ℤ) → MoreNumbers s → AllByRecursion InRange ns → after s (flat_map (λ n. 32 ∷ signed_decimal n) ns ++ (41 ∷ [])) ≡ Some InnerClosed
 after_numbers s [] m a = after_step s InnerClosed 41 [] m.1
 after_numbers s (n ∷ ns) m a =
     let r = written_number n (signed_decimal n) ((one_writing n).0 a.0) in
@@ -112,7 +112,7 @@ after_inner : (f : Inner) → ProperInner f → after OuterSpace (inner_text f) 
 after_inner f p = after_head InnerOpen InnerHead inner_letters f.head _ p.0 ∙ after_numbers InnerHead f.numbers (refl, refl) p.1
 
 -- inner forms, each behind a space, and the end of the line
-after_forms : (s : State) (is : List Inner) → MoreForms s → All ProperInner is → after s (flat_map (λ i. 32 ∷ inner_text i) is ++ (41 ∷ 10 ∷ [])) ≡ Some Line
+after_forms : (s : State) (is : List Inner) → MoreForms s → AllByRecursion ProperInner is → after s (flat_map (λ i. 32 ∷ inner_text i) is ++ (41 ∷ 10 ∷ [])) ≡ Some Line
 after_forms s [] m a = after_step s OuterClosed 41 (10 ∷ []) m.1
 after_forms s (i ∷ is) m a =
     let rest = flat_map (λ i. 32 ∷ inner_text i) is in
@@ -121,6 +121,6 @@ after_forms s (i ∷ is) m a =
 after_outer : (f : Outer) → Proper f → after Line (outer_text f) ≡ Some Line
 after_outer f p = after_head OuterOpen OuterHead outer_letters f.head _ p.0 ∙ after_forms OuterHead f.inners (refl, refl) p.1
 
-pub after_text : (fs : List Outer) → All Proper fs → after Line (text_of fs) ≡ Some Line
+pub after_text : (fs : List Outer) → AllByRecursion Proper fs → after Line (text_of fs) ≡ Some Line
 after_text [] a = refl
 after_text (f ∷ fs) a = after_more Line Line (outer_text f) (text_of fs) (after_outer f a.0) ∙ after_text fs a.1

@@ -1,6 +1,6 @@
 -- Forms are read from their writing in one way only.
 use Rattle.std.proofs.Common.{◌≡◌, ℕ, true, false, List, [], ◌∷◌, ◌++◌, length, ℤ, Ok, sym, refl, ap, ◌∙◌, append_assoc, arith}
-use Rattle.std.specs.List.{flat_map, AllByRecursion as All}
+use Rattle.std.specs.List.{flat_map, AllByRecursion}
 use Rattle.std.specs.Char.{is_ascii_digit, is_ascii_lowercase}
 use Rattle.std.specs.Fmt.{signed_decimal}
 use Rattle.std.proofs.lemmas.List.{append_cancel_left}
@@ -59,7 +59,7 @@ module _ (X : Type 0) (P : X → Type 0) (text : X → List ℕ) (apart : Apart 
   ends_items [] r = (refl, refl)
   ends_items (x ∷ xs) r = (refl, refl)
 
-  items_apart : (xs ys : List X) (r s : List ℕ) → All P xs → All P ys → flat_map (λ x. 32 ∷ text x) xs ++ (41 ∷ r) ≡ flat_map (λ x. 32 ∷ text x) ys ++ (41 ∷ s) → (xs ≡ ys) × (r ≡ s)
+  items_apart : (xs ys : List X) (r s : List ℕ) → AllByRecursion P xs → AllByRecursion P ys → flat_map (λ x. 32 ∷ text x) xs ++ (41 ∷ r) ≡ flat_map (λ x. 32 ∷ text x) ys ++ (41 ∷ s) → (xs ≡ ys) × (r ≡ s)
   items_apart [] [] r s p q e = (refl, (first_same 41 41 r s e).1)
   items_apart [] (y ∷ ys) r s p q e = absurd (let z : ◌≡◌ {A = ℕ} 41 32 = cc in omega arith)
   items_apart (x ∷ xs) [] r s p q e = absurd (let z : ◌≡◌ {A = ℕ} 32 41 = cc in omega arith)
@@ -71,7 +71,7 @@ module _ (X : Type 0) (P : X → Type 0) (text : X → List ℕ) (apart : Apart 
       ((λ i. a.0 i ∷ m.0 i), m.1)
 
   -- a head and items, before a closing bracket
-  form_apart : (g h : List ℕ) (xs ys : List X) (r s : List ℕ) → letters g ≡ true → letters h ≡ true → All P xs → All P ys → g ++ (flat_map (λ x. 32 ∷ text x) xs ++ (41 ∷ r)) ≡ h ++ (flat_map (λ x. 32 ∷ text x) ys ++ (41 ∷ s)) → (g ≡ h) × (xs ≡ ys) × (r ≡ s)
+  form_apart : (g h : List ℕ) (xs ys : List X) (r s : List ℕ) → letters g ≡ true → letters h ≡ true → AllByRecursion P xs → AllByRecursion P ys → g ++ (flat_map (λ x. 32 ∷ text x) xs ++ (41 ∷ r)) ≡ h ++ (flat_map (λ x. 32 ∷ text x) ys ++ (41 ∷ s)) → (g ≡ h) × (xs ≡ ys) × (r ≡ s)
   form_apart g h xs ys r s p q a b e =
       let m = heads_apart g h _ _ p q (ends_items xs r) (ends_items ys s) e in
       let n = items_apart xs ys r s a b m.1 in

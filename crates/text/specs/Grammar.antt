@@ -1,6 +1,6 @@
 -- How forms are written as text, and what is known of a text's first malformed byte.
 use Rattle.std.specs.Prelude.{◌≡◌, ℕ, ◌+◌, ◌<◌, ◌≤◌, Bool, true, ◌&&◌, List, [], ◌∷◌, ◌++◌, length, take, ℤ, Some, None}
-use Rattle.std.specs.List.{flat_map, AllByRecursion as All}
+use Rattle.std.specs.List.{flat_map, AllByRecursion}
 use Rattle.std.specs.Char.{is_ascii_lowercase}
 use Rattle.std.specs.Fmt.{signed_decimal}
 use Rattle.text.specs.Writing.{InRange}
@@ -26,10 +26,10 @@ abbrev pub Head : List ℕ → Type 0
 Head h = (0 < length h) × (letters h ≡ true)
 
 abbrev pub ProperInner : Inner → Type 0
-ProperInner f = Head f.head × All InRange f.numbers
+ProperInner f = Head f.head × AllByRecursion InRange f.numbers
 
 abbrev pub Proper : Outer → Type 0
-Proper f = Head f.head × All ProperInner f.inners
+Proper f = Head f.head × AllByRecursion ProperInner f.inners
 
 -- a bracket (40), the head, the numbers with a space (32) before each, a bracket (41)
 abbrev pub inner_text : Inner → List ℕ
@@ -45,7 +45,7 @@ text_of fs = flat_map outer_text fs
 
 -- bs is the writing of a list of outer forms
 abbrev pub WellFormed : List ℕ → Type 0
-WellFormed bs = (fs : List Outer) × All Proper fs × (bs ≡ text_of fs)
+WellFormed bs = (fs : List Outer) × AllByRecursion Proper fs × (bs ≡ text_of fs)
 
 -- a text is accepted exactly where it is the writing of a list of outer forms
 abbrev pub AcceptsWritings : Type 0
@@ -53,7 +53,7 @@ AcceptsWritings = (bs : List ℕ) → (WellFormed bs → malformed_at bs ≡ Non
 
 -- no text is the writing of two lists of forms
 abbrev pub OneReading : Type 0
-OneReading = (fs gs : List Outer) → All Proper fs → All Proper gs → text_of fs ≡ text_of gs → fs ≡ gs
+OneReading = (fs gs : List Outer) → AllByRecursion Proper fs → AllByRecursion Proper gs → text_of fs ≡ text_of gs → fs ≡ gs
 
 -- what stands before the place can be continued to a well-formed text, and with the byte there, or the end, no more
 pub record FirstFault (bs : List ℕ) (place : ℕ) : Type 0 where
