@@ -3,7 +3,7 @@
 
     check_daybook.py SEED COUNT [DAYBOOK]
 
-DAYBOOK is the built program, ../target/bin/daybook if not given. Prints each
+DAYBOOK is the built program, ../crates/daybook/out/daybook if not given. Prints each
 file that differs, then how many there were of each kind, how many lines of
 answers, and which refusals they told.
 """
@@ -17,7 +17,7 @@ import sys
 import generate
 import second
 
-BUILT = os.path.join(os.path.dirname(os.path.abspath(__file__)), "..", "target", "bin", "daybook")
+BUILT = os.path.join(os.path.dirname(os.path.abspath(__file__)), "..", "crates", "daybook", "out", "daybook")
 REFUSED = re.compile(r"\(refused \(number (\d+)\)")
 
 
