@@ -1,6 +1,6 @@
 // Why something could not be begun: a refusal, or want of memory, which is no refusal and has no number.
 ghost use Rattle.std.specs.Prelude.{◌≡◌};
-ghost use Rattle.terms.specs.declared.fault.Fault.TheVariants.{Memory};
+ghost use Rattle.terms.specs.declared.fault.Fault.TheVariants.{Refused, Memory};
 
 use crate::refusal::Refusal;
 use std::alloc::AllocError;
@@ -16,5 +16,13 @@ impl From<AllocError> for Fault {
 
     fn from(_e: AllocError) -> Fault {
         Fault::Memory
+    }
+}
+
+impl From<Refusal> for Fault {
+    ghost from_gives = { λ why r. r ≡ Refused why };
+
+    fn from(why: Refusal) -> Fault {
+        Fault::Refused(why)
     }
 }

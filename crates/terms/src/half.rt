@@ -1,5 +1,5 @@
 // The half of a scenario grid: how many price points lie on each side of the middle one.
-ghost use Rattle.std.specs.Prelude.{◌≡◌};
+ghost use Rattle.std.specs.Prelude.{◌≡◌, pos};
 ghost use Rattle.terms.specs.Halves.{half_of, half_size, points, steps_of};
 
 // A grid of half h has the points 0 to 2h, and its middle point is h.
@@ -53,5 +53,14 @@ impl Half {
             Half::Four => 2,
             Half::Eight => 1,
         }
+    }
+}
+
+// The size as a number that a caller may have given.
+impl From<Half> for i64 {
+    ghost from_gives = { λ half r. r ≡ pos (half_size half) };
+
+    fn from(half: Half) -> i64 {
+        half.size() as i64
     }
 }
