@@ -1,3 +1,4 @@
 pub mod Passed
 pub mod Places
+pub mod Positions
 pub mod Sizes

@@ -1,24 +1,6 @@
--- The first place at which a list fails a test: the steps of a loop that looks for it, and what its answer says.
-use Rattle.std.proofs.Common.{◌≡◌, ℕ, zero, suc, ◌+◌, ◌<◌, ◌≤◌, Bool, true, false, List, [], ◌∷◌, length, get_or, drop, Some, None, Option, sym, refl, ap, ◌∙◌, subst, suc-le-suc, zero-le, le_of_suc-le-suc, not-suc-le-zero, add-zero, add-suc, suc-add, zero-add, add-one, arith, drop-cons}
-use Rattle.std.proofs.lemmas.List.{drop_all}
+-- The first place at which a list fails a test: what it means that there is none.
+use Rattle.std.proofs.Common.{◌≡◌, ℕ, zero, suc, ◌+◌, ◌<◌, Bool, true, false, List, [], ◌∷◌, length, get_or, Some, None, Option, sym, refl, ap, ◌∙◌, subst, suc-le-suc, zero-le, le_of_suc-le-suc, not-suc-le-zero, add-zero, add-suc, suc-add, zero-add, arith}
 use Rattle.terms.specs.Judging.{failing}
-
-module _ {X : Type 0} (test : ℕ → X → Bool) (xs : List X) (i : ℕ) where
-  at_place : (d : X) → i < length xs → failing test i (drop i xs) ≡ elim (test i (get_or xs i d)) [ true ↦ failing test (suc i) (drop (suc i) xs) | false ↦ Some i ]
-  unfolding failing
-  at_place d within = ap (failing test i) (drop-cons xs i d within)
-
-  pub failing_passes : (d : X) → i < length xs → test i (get_or xs i d) ≡ true → failing test i (drop i xs) ≡ failing test (i + 1) (drop (i + 1) xs)
-  failing_passes d within passes =
-      at_place d within ∙ ap (λ b. elim b [ true ↦ failing test (suc i) (drop (suc i) xs) | false ↦ Some i ]) passes ∙ ap (λ n. failing test n (drop n xs)) (sym (add-one i))
-
-  pub failing_stops : (d : X) → i < length xs → test i (get_or xs i d) ≡ false → failing test i (drop i xs) ≡ Some i
-  failing_stops d within fails =
-      at_place d within ∙ ap (λ b. elim b [ true ↦ failing test (suc i) (drop (suc i) xs) | false ↦ Some i ]) fails
-
-  pub failing_ends : length xs ≤ i → failing test i (drop i xs) ≡ None
-  unfolding failing
-  failing_ends past = ap (failing test i) (drop_all i xs past)
 
 pub some_is_none : (i : ℕ) → ◌≡◌ {A = Option ℕ} (Some i) None → ⊥
 some_is_none i e = let z : ◌≡◌ {A = ℕ} 0 1 = cc in omega arith

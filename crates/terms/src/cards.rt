@@ -65,7 +65,7 @@ pub struct Held {
 pub fn between(n: i64, low: i64, high: i64) -> bool
     ensures { result ≡ within low high n }
 {
-    (low <= n) & (n <= high)
+    (low..=high).contains(&n)
 }
 
 impl Rates {

@@ -15,16 +15,8 @@ pub fn first_failing<T, J: Judge<T>>(judge: &J, items: &[T]) -> Option<usize>
     ensures value { result ≡ failing (J.Judge.admits judge.now) 0 items.now }
     ensures inside { IfSome result (λ place. place < length items.now) }
 {
-    for (place, item) in items.iter().enumerate() {
-        if fails(judge, place, item) {
-            return Some(place);
-        }
-    }
-    None
-}
-
-fn fails<T, J: Judge<T>>(judge: &J, place: usize, item: &T) -> bool
-    ensures { result ≡ not (J.Judge.admits judge.now place item.now) }
-{
-    !judge.passes(place, item)
+    items
+        .iter()
+        .enumerate()
+        .position(|(place, item)| !judge.passes(place, item))
 }

@@ -74,11 +74,11 @@ impl Refusal {
         ensures { result ≡ place_of self }
     {
         match self {
-            Refusal::Malformed(byte) => byte,
-            Refusal::OutsideField(at) => at,
-            Refusal::WrongForm(byte) => byte,
-            Refusal::BadCard(card) => card,
-            Refusal::WrongLength(wanted) => wanted,
+            Refusal::Malformed(place)
+            | Refusal::OutsideField(place)
+            | Refusal::WrongForm(place)
+            | Refusal::BadCard(place)
+            | Refusal::WrongLength(place) => place,
             _ => 0,
         }
     }
