@@ -72,7 +72,7 @@ impl Rates {
     fn fit(&self) -> bool
         ensures { result ≡ rates_fit self.now }
     {
-        (1 <= self.r1) & (self.r1 <= self.r2) & (self.r2 <= self.r3) & (self.r3 <= 10_000)
+        1 <= self.r1 && self.r1 <= self.r2 && self.r2 <= self.r3 && self.r3 <= 10_000
     }
 }
 
@@ -80,7 +80,7 @@ impl Limits {
     fn fit(&self) -> bool
         ensures { result ≡ limits_fit self.now }
     {
-        (0 <= self.a) & (self.a <= self.b) & (self.b <= 10_000)
+        0 <= self.a && self.a <= self.b && self.b <= 10_000
     }
 }
 
@@ -89,6 +89,7 @@ impl Line {
     pub fn fits_a_future(&self) -> bool
         ensures { result ≡ future_fits self.now }
     {
+        // joined by `&`: of five branches that meet again no proof closed
         between(self.price, 0, 10_000_000)
             & between(self.spot, 0, 10_000_000)
             & between(self.change, 0, 1_000_000)
