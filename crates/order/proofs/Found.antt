@@ -1,22 +1,10 @@
 -- What is found from the back of a list is its least item with its first place.
-use Rattle.std.proofs.Common.{◌≡◌, ℕ, zero, suc, ◌+◌, ◌<◌, Bool, true, false, List, [], ◌∷◌, length, get_or, drop, Some, None, Option, sym, refl, ap, ◌∙◌, subst, ⊎_elim, suc-le-suc, zero-le, le_of_suc-le-suc, not-suc-le-zero, add-zero, arith, drop-cons, MatchOption}
-use lib.Seq.{drop-length}
+use Rattle.std.proofs.Common.{◌≡◌, ℕ, zero, suc, ◌+◌, ◌<◌, Bool, true, false, List, [], ◌∷◌, length, get_or, Some, None, Option, sym, refl, ap, ◌∙◌, subst, ⊎_elim, suc-le-suc, zero-le, le_of_suc-le-suc, not-suc-le-zero, add-zero, arith, MatchOption}
 use Rattle.std.proofs.lemmas.List.{get_or_default}
 use Rattle.std.proofs.lemmas.Bool.{false≢true}
 use Rattle.order.specs.Orders.{TotalOrder, lesser_of, least_from, first_least, IsFirstLeast}
 
 module _ {X : Type 0} (at_most : X → X → Bool) where
-  -- one item more in front
-  pub least_more : (xs : List X) (i : ℕ) (x : X) → i < length xs → x ≡ get_or xs i x → least_from at_most i (drop i xs) ≡ Some (lesser_of at_most (x, i) (least_from at_most (suc i) (drop (suc i) xs)))
-  unfolding least_from
-  least_more xs i x within read =
-      ap (least_from at_most i) (drop-cons xs i x within ∙ ap (λ y. y ∷ drop (suc i) xs) (sym read))
-
-  -- none past the end
-  pub least_none : (xs : List X) → least_from at_most (length xs) (drop (length xs) xs) ≡ None
-  unfolding least_from
-  least_none xs = ap (least_from at_most (length xs)) (drop-length xs)
-
   -- the j-th item of xs, whose places count from i, is its first least
   Found : ℕ → List X → X × ℕ → ℕ → Type 0
   Found i xs found j = (found.1 ≡ i + j) × (j < length xs) × (found.0 ≡ get_or xs j found.0)
@@ -27,7 +15,7 @@ module _ {X : Type 0} {at_most : X → X → Bool} (o : TotalOrder at_most) wher
   itself : (x : X) → at_most x x ≡ true
   itself x = ⊎_elim (λ h. h) (λ h. h) (o.total x x)
 
-  other_way : (x y : X) → at_most x y ≡ false → at_most y x ≡ true
+  pub other_way : (x y : X) → at_most x y ≡ false → at_most y x ≡ true
   other_way x y h = ⊎_elim (λ t. absurd (false≢true (sym h ∙ t))) (λ t. t) (o.total x y)
 
   alone : (i : ℕ) (x : X) (xs : List X) → length xs ≡ 0 → Found at_most i (x ∷ xs) (x, i) 0

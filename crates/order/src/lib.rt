@@ -6,6 +6,7 @@ ghost use Rattle.order.specs.Items.{integers_ordered, costlier, family_losses_or
 ghost use Rattle.order.specs.Orders.{TotalOrder, lesser_of, first_least, IsFirstLeast};
 
 // An item with a total order. An implementation says by `at_most` which of two items comes first, and proves the order's laws.
+// It asks for this one test: std's `Ord` asks for three traits more, and a bound would speak of an `Ordering` where it speaks of the test.
 pub trait Ordered {
     ghost at_most: { Self → Self → Bool };
 
@@ -39,7 +40,7 @@ impl Ordered for FamilyLoss {
     ghost ordered = { family_losses_ordered };
 
     fn at_most(&self, other: &FamilyLoss) -> bool {
-        (other.loss < self.loss) | ((self.loss == other.loss) & (self.family <= other.family))
+        other.loss < self.loss || (self.loss == other.loss && self.family <= other.family)
     }
 }
 
@@ -48,25 +49,21 @@ pub fn least<T: Ordered + Copy>(items: &[T]) -> Option<(T, usize)>
     ensures value { result ≡ first_least T.at_most items.now }
     ensures law { IsFirstLeast T.at_most items.now result }
 {
-    let mut found: Option<(T, usize)> = None;
-    for i in (0..items.len()).rev() {
-        found = Some(lesser((items[i], i), found));
-    }
-    found
+    items
+        .iter()
+        .copied()
+        .enumerate()
+        .map(|(place, item)| (item, place))
+        .reduce(lesser)
 }
 
-// The first of an item and the least of those after it; the item itself on a tie.
-fn lesser<T: Ordered + Copy>(item: (T, usize), later: Option<(T, usize)>) -> (T, usize)
-    ensures { result ≡ lesser_of T.at_most item later }
+// Of an item and a later one, the one that comes first; the earlier one on a tie.
+fn lesser<T: Ordered + Copy>(item: (T, usize), later: (T, usize)) -> (T, usize)
+    ensures { result ≡ lesser_of T.at_most item (Some later) }
 {
-    match later {
-        None => item,
-        Some(other) => {
-            if item.0.at_most(&other.0) {
-                item
-            } else {
-                other
-            }
-        }
+    if item.0.at_most(&later.0) {
+        item
+    } else {
+        later
     }
 }
