@@ -6,7 +6,7 @@ ghost use Rattle.banks.specs.Outcomes.{told};
 ghost use Rattle.banks.specs.Soundness.{pair_sound};
 
 use crate::bank::Bank;
-use crate::size::{COLUMNS, MOST_LINES};
+use crate::size::{MOST_LINES, has_cell};
 use terms::half::Half;
 use terms::refusal::Refusal;
 
@@ -34,7 +34,7 @@ impl<A: Bank, B: Bank> Bank for Pair<A, B> {
     }
 
     fn price(&self, line: usize, point: usize, column: usize) -> i64 {
-        if line < self.lines() && point < self.half().points() && column < COLUMNS {
+        if has_cell(self.half(), self.lines(), line, point, column) {
             let before = self.first.lines();
             if line < before {
                 self.first.price(line, point, column)
@@ -53,7 +53,7 @@ impl<A: Bank + Drop, B: Bank + Drop> Pair<A, B> {
         ensures made { told (λ p. pair_meaning (A.Bank.meaning p.first) (B.Bank.meaning p.second)) result ≡ pair_made (A.Bank.meaning first) (B.Bank.meaning second) }
         ensures law { MadeExactlyWhen result (MayPair (A.Bank.meaning first) (B.Bank.meaning second)) }
     {
-        if first.half().size() != second.half().size() {
+        if first.half() != second.half() {
             return Err(Refusal::WrongShape);
         }
         if first.lines() + second.lines() > MOST_LINES {

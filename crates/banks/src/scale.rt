@@ -46,10 +46,8 @@ impl<B: Bank + Drop> Scale<B> {
         ensures made { told (λ s. scale_meaning s.factor (B.Bank.meaning s.bank)) result ≡ scale_made factor (B.Bank.meaning bank) }
         ensures law { MadeExactlyWhen result (MayScale factor (B.Bank.meaning bank)) }
     {
-        match judged(factor, bank.reach()) {
-            Err(why) => Err(why),
-            Ok(factor) => Ok(Scale { bank, factor }),
-        }
+        let factor = judged(factor, bank.reach())?;
+        Ok(Scale { bank, factor })
     }
 }
 

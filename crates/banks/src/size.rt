@@ -1,6 +1,11 @@
-// Prices kept within a bound, for banks whose structs may hold any numbers.
+// The sizes of a bank, whether a cell lies on its grid, and prices kept within a bound, for banks whose structs may hold any numbers.
 ghost use Rattle.std.specs.Prelude.{◌≡◌, ◌≤◌, min, unsigned_abs};
-ghost use Rattle.banks.specs.Meanings.{most_reach, capped as capped_at};
+ghost use Rattle.banks.specs.Meanings.{most_reach, on_grid, capped as capped_at};
+
+use terms::half::Half;
+
+// How many grains a kopeck has.
+pub const GRAINS: u64 = 80_000;
 
 // The columns of a scenario grid.
 pub const COLUMNS: usize = 7;
@@ -21,4 +26,11 @@ pub fn capped(reach: u64, price: i128) -> i64
     } else {
         0
     }
+}
+
+// Whether a cell lies on the grid of so many lines.
+pub fn has_cell(half: Half, lines: usize, line: usize, point: usize, column: usize) -> bool
+    ensures { result ≡ on_grid half lines line point column }
+{
+    line < lines && point < half.points() && column < COLUMNS
 }

@@ -2,15 +2,15 @@
 ghost use Rattle.std.specs.Prelude.{◌≡◌, ◌*◌, ◌<◌, ◌≤◌, pos, ◌*ℤ◌, slice_index_or};
 ghost use Rattle.banks.specs.Meanings.{grains};
 ghost use Rattle.terms.specs.Checks.{MadeExactlyWhen};
+ghost use Rattle.terms.specs.Judging.{failing};
 ghost use Rattle.banks.specs.Outcomes.{told};
 ghost use Rattle.banks.specs.Soundness.{bounded_sound};
 ghost use Rattle.banks.specs.Tables.{most_entry, listed, entry_at, entries as entry_count, fits_at, table_judged, table_made, table_meaning, MayTabulate};
 
 use crate::bank::Bank;
-use crate::size::{COLUMNS, MOST_LINES, capped};
+use crate::size::{COLUMNS, GRAINS, MOST_LINES, capped, has_cell};
 use terms::cards::between;
 use terms::half::Half;
-use terms::judge::{Judge, first_failing};
 use terms::refusal::Refusal;
 
 // the columns that hold prices, before those that hold changes of a price
@@ -18,10 +18,8 @@ const VOLATILITIES: usize = 3;
 
 const MOST_ENTRY: i64 = 10_000_000;
 
-const GRAINS: i128 = 80_000;
-
 // what the largest entry comes to in grains
-const TABLE_REACH: u64 = 800_000_000_000;
+const TABLE_REACH: u64 = GRAINS * MOST_ENTRY as u64;
 
 #[derive(Clone, Copy, Drop)]
 pub struct Table<'a> {
@@ -48,7 +46,7 @@ impl<'a> Bank for Table<'a> {
     }
 
     fn price(&self, line: usize, point: usize, column: usize) -> i64 {
-        if line < self.lines() && point < self.half.points() && column < COLUMNS {
+        if has_cell(self.half, self.lines(), line, point, column) {
             capped(
                 TABLE_REACH,
                 self.entry(place(self.half, line, point, column)),
@@ -67,25 +65,20 @@ impl<'a> Table<'a> {
         ensures made { told table_meaning result ≡ table_made half lines entries.now }
         ensures law { MadeExactlyWhen result (MayTabulate half lines entries.now) }
     {
-        match judged(half, lines, entries) {
-            Err(why) => Err(why),
-            Ok(half) => Ok(Table {
-                half,
-                count: lines as usize,
-                entries,
-            }),
-        }
+        let half = judged(half, lines, entries)?;
+        Ok(Table {
+            half,
+            count: lines as usize,
+            entries,
+        })
     }
 
     // The entry at a place, in grains; 0 past the list's end.
     fn entry(&self, place: usize) -> i128
         ensures { result ≡ pos grains *ℤ slice_index_or self.now.entries.now place (pos 0) }
     {
-        if place < self.entries.len() {
-            GRAINS * i128::from(self.entries[place])
-        } else {
-            0
-        }
+        let kopecks = self.entries.get(place).copied().unwrap_or(0);
+        i128::from(GRAINS) * i128::from(kopecks)
     }
 }
 
@@ -93,17 +86,15 @@ impl<'a> Table<'a> {
 fn judged(half: i64, lines: i64, entries: &[i64]) -> Result<Half, Refusal>
     ensures { result ≡ table_judged half lines entries.now }
 {
-    let Some(grid) = Half::of(half) else {
-        return Err(Refusal::WrongShape);
-    };
-    if !between(lines, 1, 16) {
+    let grid = Half::of(half).ok_or(Refusal::WrongShape)?;
+    if !between(lines, 1, MOST_LINES as i64) {
         return Err(Refusal::WrongShape);
     }
     let wanted = length(grid, lines as usize);
     if entries.len() != wanted {
         return Err(Refusal::WrongLength(wanted));
     }
-    match first_failing(&Entries { half: grid }, entries) {
+    match first_outside(grid, entries) {
         Some(place) => Err(Refusal::OutsideField(place)),
         None => Ok(grid),
     }
@@ -125,18 +116,14 @@ fn place(half: Half, line: usize, point: usize, column: usize) -> usize
     (line * COLUMNS + column) * half.points() + point
 }
 
-// Judges the entries of a table on a grid.
-#[derive(Drop)]
-struct Entries {
-    half: Half,
-}
-
-impl Judge<i64> for Entries {
-    ghost admits = { λ e. fits_at e.half };
-
-    fn passes(&self, place: usize, entry: &i64) -> bool {
-        fits(self.half, place, *entry)
-    }
+// The place of the first entry that lies outside its field.
+fn first_outside(half: Half, entries: &[i64]) -> Option<usize>
+    ensures { result ≡ failing (fits_at half) 0 entries.now }
+{
+    entries
+        .iter()
+        .enumerate()
+        .position(|(place, entry)| !fits(half, place, *entry))
 }
 
 // Whether the entry at a place lies in its field: a price is never below 0.
