@@ -7,18 +7,18 @@ ghost use Rattle.banks.specs.Soundness.{bounded_sound};
 ghost use Rattle.banks.specs.Strips.{quote_of, quoted, quote_reach, strip_reach, no_line, no_quote, strip_judged, strip_made, strip_meaning, MayStrip};
 ghost use Rattle.terms.specs.Cards.{future_fits};
 ghost use Rattle.terms.specs.Halves.{half_size, steps_of};
+ghost use Rattle.terms.specs.Judging.{failing};
+ghost use Rattle.std.specs.List.{All};
 
 use crate::bank::Bank;
-use crate::size::{COLUMNS, MOST_LINES, MOST_REACH, capped};
+use crate::size::{GRAINS, MOST_LINES, MOST_REACH, capped, has_cell};
+use std::array;
 use terms::cards::Line;
 use terms::half::Half;
-use terms::judge::{Judge, first_failing};
 use terms::refusal::Refusal;
 
-const GRAINS: u64 = 80_000;
-
 // A future in grains: its price, what its price moves by from point to point, and what a move of the rate curve changes it by.
-#[derive(Clone, Copy)]
+#[derive(Clone, Copy, Default)]
 struct Quote {
     base: u64,
     step: u64,
@@ -30,7 +30,8 @@ pub struct Strip {
     half: Half,
     count: usize,
     reach: u64,
-    quotes: [Quote; 16],
+    // room for as many lines as a bank may have, of which `count` are used: a bank is copied as one plain value, and never allocates
+    quotes: [Quote; MOST_LINES],
 }
 
 impl Bank for Strip {
@@ -51,7 +52,7 @@ impl Bank for Strip {
     }
 
     fn price(&self, line: usize, point: usize, column: usize) -> i64 {
-        if line < self.lines() && point < self.half.points() && column < COLUMNS {
+        if has_cell(self.half, self.lines(), line, point, column) {
             let quote = self.quotes[line];
             capped(self.reach, quote.price(self.half, point, column))
         } else {
@@ -67,15 +68,13 @@ impl Strip {
         ensures made { told strip_meaning result ≡ strip_made half futures.now }
         ensures law { MadeExactlyWhen result (MayStrip half futures.now) }
     {
-        match judged(half, futures) {
-            Err(why) => Err(why),
-            Ok(half) => Ok(Strip {
-                half,
-                count: futures.len(),
-                reach: widest(half, futures),
-                quotes: quotes(half, futures),
-            }),
-        }
+        let half = judged(half, futures)?;
+        Ok(Strip {
+            half,
+            count: futures.len(),
+            reach: widest(half, futures),
+            quotes: quotes(half, futures),
+        })
     }
 }
 
@@ -83,60 +82,64 @@ impl Strip {
 fn judged(half: i64, futures: &[Line]) -> Result<Half, Refusal>
     ensures { result ≡ strip_judged half futures.now }
 {
-    if let Some(card) = first_failing(&Futures, futures) {
+    if let Some(card) = first_unfit(futures) {
         return Err(Refusal::BadCard(card));
     }
-    let Some(grid) = Half::of(half) else {
-        return Err(Refusal::WrongShape);
-    };
+    let grid = Half::of(half).ok_or(Refusal::WrongShape)?;
     if futures.is_empty() || futures.len() > MOST_LINES {
         return Err(Refusal::WrongShape);
     }
     Ok(grid)
 }
 
-// Judges the cards of futures.
-#[derive(Drop)]
-struct Futures;
-
-impl Judge<Line> for Futures {
-    ghost admits = { λ _ _. future_fits };
-
-    fn passes(&self, _place: usize, card: &Line) -> bool {
-        card.fits_a_future()
-    }
+// The place of the first card that is no future's.
+fn first_unfit(futures: &[Line]) -> Option<usize>
+    ensures { result ≡ failing (λ _. future_fits) 0 futures.now }
+{
+    futures.iter().position(|card| !card.fits_a_future())
 }
 
 // The greatest size that a price or a change of these futures can have.
 fn widest(half: Half, futures: &[Line]) -> u64
-    requires { (k : ℕ) → k < length futures.now → future_fits (slice_index_or futures.now k no_line) ≡ true }
+    requires { All (λ card. future_fits card ≡ true) futures.now }
     ensures { result ≡ strip_reach half futures.now }
 {
-    let mut most: u64 = 0;
-    for card in futures {
-        let reach = Quote::of(half, card).reach(half);
-        most = most.max(reach);
-    }
-    most
+    futures
+        .iter()
+        .map(|card| reach_of(half, card))
+        .max()
+        .unwrap_or(0)
+}
+
+// The greatest size that a price or a change of a future can have.
+fn reach_of(half: Half, card: &Line) -> u64
+    requires { future_fits card.now ≡ true }
+    ensures { result ≡ quote_reach half (quote_of half card.now) }
+{
+    let quote = Quote::of(half, card);
+    let moved = product(half.size() as u64, quote.step);
+    (quote.base + moved).max(quote.change)
 }
 
 // What a strip keeps of its futures, with room for as many as a bank may have.
-fn quotes(half: Half, futures: &[Line]) -> [Quote; 16]
-    requires fitting { (k : ℕ) → k < length futures.now → future_fits (slice_index_or futures.now k no_line) ≡ true }
+fn quotes(half: Half, futures: &[Line]) -> [Quote; MOST_LINES]
+    requires fitting { All (λ card. future_fits card ≡ true) futures.now }
     requires few { length futures.now ≤ 16 }
     ensures long { length result ≡ 16 }
     ensures each { (k : ℕ) → k < length futures.now → slice_index_or result k no_quote ≡ quote_of half (slice_index_or futures.now k no_line) }
 {
-    let none = Quote {
-        base: 0,
-        step: 0,
-        change: 0,
-    };
-    let mut quotes = [none; 16];
-    for (k, card) in futures.iter().enumerate() {
-        quotes[k] = Quote::of(half, card);
+    array::from_fn(|k| quote_at(half, futures, k))
+}
+
+// What a strip keeps of the future at a place; nothing matters where there is none.
+fn quote_at(half: Half, futures: &[Line], k: usize) -> Quote
+    requires { All (λ card. future_fits card ≡ true) futures.now }
+    ensures { k < length futures.now → result ≡ quote_of half (slice_index_or futures.now k no_line) }
+{
+    match futures.get(k) {
+        Some(card) => Quote::of(half, card),
+        None => Quote::default(),
     }
-    quotes
 }
 
 impl Quote {
@@ -170,29 +173,16 @@ impl Quote {
         }
     }
 
-    // The largest size that its price or its change can have.
-    fn reach(self, half: Half) -> u64
-        requires base_fits { self.base ≤ 800000000000 }
-        requires step_fits { self.step ≤ 800000000000 }
-        ensures { result ≡ quote_reach half self }
-    {
-        let moved = product(half.size() as u64, self.step);
-        (self.base + moved).max(self.change)
-    }
-
     // The price at a point and in a column.
     fn price(self, half: Half, point: usize, column: usize) -> i128
         requires { point < 17 }
         ensures { result ≡ quoted half self point column }
     {
-        if column < 3 {
-            self.level(half, point)
-        } else if column == 3 {
-            -i128::from(self.change)
-        } else if column == 4 {
-            i128::from(self.change)
-        } else {
-            0
+        match column {
+            0..=2 => self.level(half, point),
+            3 => -i128::from(self.change),
+            4 => i128::from(self.change),
+            _ => 0,
         }
     }
 
