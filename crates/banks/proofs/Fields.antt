@@ -9,7 +9,7 @@ use Rattle.terms.proofs.Sizes.{future_sizes}
 use Rattle.banks.specs.Strips.{quote_of}
 use Rattle.banks.specs.declared.strip.Quote.{Quote}
 
-steps_le : (half : Half) → steps_of half ≤ 8
+pub steps_le : (half : Half) → steps_of half ≤ 8
 steps_le One = lit≤ tt
 steps_le Two = lit≤ tt
 steps_le Four = lit≤ tt

@@ -36,7 +36,7 @@ whole_move Two x = omega arith
 whole_move Four x = omega arith
 whole_move Eight x = omega arith
 
-reach_fits : (half : Half) (l : Line) → future_fits l ≡ true → quote_reach half (quote_of half l) ≤ most_reach
+pub reach_fits : (half : Half) (l : Line) → future_fits l ≡ true → quote_reach half (quote_of half l) ≤ most_reach
 reach_fits half l h =
     let s = future_sizes l h in
     let q = quote_sizes half l h in

@@ -117,7 +117,7 @@ fn reach_of(half: Half, card: &Line) -> u64
     ensures { result ≡ quote_reach half (quote_of half card.now) }
 {
     let quote = Quote::of(half, card);
-    let moved = product(half.size() as u64, quote.step);
+    let moved = half.size() as u64 * quote.step;
     (quote.base + moved).max(quote.change)
 }
 
@@ -157,6 +157,7 @@ impl Quote {
         )
     }
 
+    // The same from the sizes of a card's numbers: over five fields of a card at once the products were not proved to fit.
     fn new(half: Half, price: u64, rate: u64, spot: u64, change: u64) -> Quote
         requires price_fits { price ≤ 10000000 }
         requires rate_fits { rate ≤ 10000 }
@@ -164,11 +165,10 @@ impl Quote {
         requires change_fits { change ≤ 1000000 }
         ensures { result ≡ record { base = 80000 * price; step = steps_of half * (rate * spot); change = 80000 * change } }
     {
-        let eighth = product(rate, spot);
-        let step = product(half.eighths() as u64, eighth);
+        let eighth = rate * spot;
         Quote {
             base: GRAINS * price,
-            step,
+            step: half.eighths() as u64 * eighth,
             change: GRAINS * change,
         }
     }
@@ -194,15 +194,6 @@ impl Quote {
         let count = from_middle(half, point);
         i128::from(self.base) + steps(count, self.step)
     }
-}
-
-fn product(a: u64, b: u64) -> u64
-    requires a_fits { a ≤ 10000 }
-    requires b_fits { b ≤ 800000000000 }
-    ensures value { result ≡ a * b }
-    ensures bounded { result ≤ 10000 * b }
-{
-    a * b
 }
 
 // How many points a point lies above the middle one.
