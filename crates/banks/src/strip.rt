@@ -173,26 +173,17 @@ impl Quote {
         }
     }
 
-    // The price at a point and in a column.
+    // The price at a point and in a column: on the volatility curves, as many steps from the base as the point lies from the middle.
     fn price(self, half: Half, point: usize, column: usize) -> i128
         requires { point < 17 }
         ensures { result ≡ quoted half self point column }
     {
         match column {
-            0..=2 => self.level(half, point),
+            0..=2 => i128::from(self.base) + steps(from_middle(half, point), self.step),
             3 => -i128::from(self.change),
             4 => i128::from(self.change),
             _ => 0,
         }
-    }
-
-    // The price at a point: as many steps from the base as the point lies from the middle.
-    fn level(self, half: Half, point: usize) -> i128
-        requires { point < 17 }
-        ensures { result ≡ pos self.base +ℤ (pos point -ℤ pos (half_size half)) *ℤ pos self.step }
-    {
-        let count = from_middle(half, point);
-        i128::from(self.base) + steps(count, self.step)
     }
 }
 
