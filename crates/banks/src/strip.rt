@@ -44,7 +44,7 @@ impl Bank for Strip {
     }
 
     fn lines(&self) -> usize {
-        self.count.min(MOST_LINES).max(1)
+        self.count.clamp(1, MOST_LINES)
     }
 
     fn reach(&self) -> u64 {

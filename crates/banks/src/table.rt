@@ -38,7 +38,7 @@ impl<'a> Bank for Table<'a> {
     }
 
     fn lines(&self) -> usize {
-        self.count.min(MOST_LINES).max(1)
+        self.count.clamp(1, MOST_LINES)
     }
 
     fn reach(&self) -> u64 {
