@@ -131,7 +131,7 @@ fn quotes(half: Half, futures: &[Line]) -> [Quote; MOST_LINES]
     array::from_fn(|k| quote_at(half, futures, k))
 }
 
-// What a strip keeps of the future at a place; nothing matters where there is none.
+// What a strip keeps of the future at a place; past the last one any quote will do, since no price is read from it.
 fn quote_at(half: Half, futures: &[Line], k: usize) -> Quote
     requires { All (λ card. future_fits card ≡ true) futures.now }
     ensures { k < length futures.now → result ≡ quote_of half (slice_index_or futures.now k no_line) }
