@@ -1,16 +1,15 @@
 // A month at a point.
 ghost use Rattle.std.specs.Prelude.{◌≡◌, ◌^◌, ◌≤◌, unsigned_abs};
 ghost use Rattle.margin.specs.Layers.{volatility_result, rate_result, twist_result, curve_result, month_result};
-ghost use Rattle.layers.specs.Scenes.{Fits, cells_of};
+ghost use Rattle.layers.specs.Scenes.{cells_of};
 
+use crate::fitted::Fitted;
 use crate::pick::{least_of_three, least_with_0};
-use crate::scene::Scene;
 
-impl<'a> Scene<'a> {
+impl<'a> Fitted<'a> {
     // The least of the volatility columns, with the lowest column that has it.
     pub fn volatility_result(&self, m: usize, p: usize) -> (i128, usize)
-        requires { Fits self.now }
-        ensures value { result ≡ volatility_result (cells_of self.now) m p }
+        ensures value { result ≡ volatility_result (cells_of self.now.scene) m p }
         ensures size { unsigned_abs result.0 ≤ 2 ^ 70 }
     {
         least_of_three(self.cell(m, p, 0), self.cell(m, p, 1), self.cell(m, p, 2))
@@ -18,8 +17,7 @@ impl<'a> Scene<'a> {
 
     // The least of 0 and the two rate columns; its place is 0 where neither is taken.
     pub fn rate_result(&self, m: usize, p: usize) -> (i128, usize)
-        requires { Fits self.now }
-        ensures value { result ≡ rate_result (cells_of self.now) m p }
+        ensures value { result ≡ rate_result (cells_of self.now.scene) m p }
         ensures size { unsigned_abs result.0 ≤ 2 ^ 70 }
         ensures place { result.1 ≤ 2 }
     {
@@ -28,8 +26,7 @@ impl<'a> Scene<'a> {
 
     // The least of 0 and the two twist columns.
     pub fn twist_result(&self, m: usize, p: usize) -> (i128, usize)
-        requires { Fits self.now }
-        ensures value { result ≡ twist_result (cells_of self.now) m p }
+        ensures value { result ≡ twist_result (cells_of self.now.scene) m p }
         ensures size { unsigned_abs result.0 ≤ 2 ^ 70 }
         ensures place { result.1 ≤ 2 }
     {
@@ -37,16 +34,14 @@ impl<'a> Scene<'a> {
     }
 
     pub fn curve_result(&self, m: usize, p: usize) -> i128
-        requires { Fits self.now }
-        ensures value { result ≡ curve_result (cells_of self.now) m p }
+        ensures value { result ≡ curve_result (cells_of self.now.scene) m p }
         ensures size { unsigned_abs result ≤ 2 ^ 71 }
     {
         self.rate_result(m, p).0 + self.twist_result(m, p).0
     }
 
     pub fn month_result(&self, m: usize, p: usize) -> i128
-        requires { Fits self.now }
-        ensures value { result ≡ month_result (cells_of self.now) m p }
+        ensures value { result ≡ month_result (cells_of self.now.scene) m p }
         ensures size { unsigned_abs result ≤ 2 ^ 72 }
     {
         self.volatility_result(m, p).0 + self.curve_result(m, p)

@@ -1,18 +1,50 @@
-// The rows of results by points.
-ghost use Rattle.layers.specs.Scenes.{Fits, HoldsBaskets};
+// The baskets' rows of results by points.
+ghost use Rattle.std.specs.Prelude.{◌≡◌};
+ghost use Rattle.layers.specs.Scenes.{HoldsBasket, HoldsBaskets};
 
-use crate::scene::Scene;
+use crate::fitted::Fitted;
+use std::array;
 
-impl<'a> Scene<'a> {
-    // The baskets' results, with room for 17 points a basket.
-    pub fn basket_rows(&self) -> [i128; 68]
-        requires { Fits self.now }
-        ensures { HoldsBaskets self.now result }
+// A scene with the results of each basket at 17 points.
+#[derive(Clone, Copy, Drop)]
+pub struct BasketRows<'a> {
+    pub fitted: Fitted<'a>,
+    pub rows: [[i128; 17]; 4],
+    ghost held: { HoldsBaskets fitted.scene rows },
+}
+
+impl<'a> Fitted<'a> {
+    fn basket_row(&self, b: usize) -> [i128; 17]
+        ensures { HoldsBasket self.now.scene b result }
     {
-        let mut rows = [0; 68];
-        for i in 0..68 {
-            rows[i] = self.basket_result(i / 17, i % 17);
+        array::from_fn(|p| self.basket_result(b, p))
+    }
+
+    // The baskets' results, with room for 17 points a basket.
+    pub fn basket_rows(&self) -> BasketRows<'a>
+        ensures { result.fitted ≡ self.now }
+    {
+        BasketRows {
+            fitted: *self,
+            // the clause is written out, since none is found for a closure that gives an array
+            rows: array::from_fn(
+                |b|
+                    ensures { HoldsBasket self.entry.now.scene b result }
+                { self.basket_row(b) },
+            ),
         }
-        rows
+    }
+}
+
+impl<'a> BasketRows<'a> {
+    // A basket's row, worked out where it is none of those that are kept.
+    pub(crate) fn row(&self, b: usize) -> [i128; 17]
+        ensures { HoldsBasket self.now.fitted.scene b result }
+    {
+        if b < 4 {
+            self.rows[b]
+        } else {
+            self.fitted.basket_row(b)
+        }
     }
 }

@@ -1,0 +1,7 @@
+use Rattle.std.proofs.Common.{ℕ, ◌+◌, ◌/◌, ap}
+use Rattle.margin.specs.Layers.{margin_of}
+use Rattle.layers.proofs.amounts.Losses.margin.Goals as goal
+
+pub returns : goal.returns
+unfolding margin_of
+returns c = ap (λ (n : ℕ). (n + 79999) / 80000) c.grains.ensures.value

@@ -1,0 +1,10 @@
+use Rattle.std.proofs.Common.{length, rules}
+use Rattle.margin.specs.HandedOut.{family_point}
+use Rattle.layers.specs.Scenes.{cards_of, cells_of}
+use Rattle.layers.proofs.Filling.{choices_made}
+use Rattle.layers.proofs.rows.BasketRows.chosen_families.Goals as goal
+
+pub returns : goal.returns
+returns c =
+    let s = c.args.self.now.fitted.scene in
+    choices_made _ _ (length s.families.now) 2 (family_point s.last (cards_of s) (cells_of s)) (λ i y q k. (search rules, search rules)) c.args.self.now.fitted.fits.few_families c.from_fn.result c.from_fn.ensures.items
