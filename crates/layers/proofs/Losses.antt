@@ -1,5 +1,6 @@
 -- The families' losses, read from a list, and the greatest of them.
 use Rattle.std.proofs.Common.{◌≡◌, ℕ, zero, suc, ◌+◌, ◌-◌, ◌*◌, ◌<◌, ◌≤◌, List, [], ◌∷◌, length, get_or, take, sum, Some, None, Option, sym, refl, ap, ◌∙◌, ap₂, subst, zero-le, arith}
+use Rattle.std.specs.Option.{MatchOption}
 use Rattle.order.specs.Items.{costlier}
 use Rattle.order.specs.Orders.{least_from, first_least}
 use Rattle.order.specs.declared.FamilyLoss.{FamilyLoss}
@@ -47,22 +48,18 @@ two_sized size x y d most h k l (suc zero) = k
 two_sized size x y d most h k l (suc (suc f)) = l
 
 -- ---- the costliest of up to two families
-record Found (place : ℕ) (o : Option (FamilyLoss × ℕ)) : Type 0 where
-  some : (x : FamilyLoss) (i : ℕ) → o ≡ Some (x, i) → i ≡ place
-  none : o ≡ None → 0 ≡ place
-
-at_place : (r : FamilyLoss × ℕ) (o : Option (FamilyLoss × ℕ)) → o ≡ Some r → Found r.1 o
-at_place r o e = record {
-  some = λ x i k. let same : ◌≡◌ {A = FamilyLoss × ℕ} (x, i) r = cc in ap (λ (t : FamilyLoss × ℕ). t.1) same;
-  none = λ k. let z : ◌≡◌ {A = ℕ} 0 1 = cc in absurd (omega arith);
-}
-
-two_found : (n : ℕ) (row : ℕ → FamilyLoss) (o : Option (FamilyLoss × ℕ)) → n ≤ 2 → o ≡ first_least costlier (take (n - 0) (row 0 ∷ row 1 ∷ [])) → Found (least costlier row 0 (n - 1)).1 o
+-- what is made of the item found among up to two, or 0 where there is none, is the place of the least
+two_found : (n : ℕ) (row : ℕ → FamilyLoss) (r : ℕ) → n ≤ 2 → MatchOption (first_least costlier (take (n - 0) (row 0 ∷ row 1 ∷ []))) (r ≡ 0) (λ found. r ≡ found.1) → r ≡ (least costlier row 0 (n - 1)).1
 unfolding least_from least
-two_found zero row o h e = record { some = λ x i k. (let z : ◌≡◌ {A = ℕ} 0 1 = cc in absurd (omega arith)); none = λ k. refl }
-two_found (suc zero) row o h e = at_place (row 0, 0) o e
-two_found (suc (suc zero)) row o h e = at_place (least costlier row 0 1) o e
-two_found (suc (suc (suc n))) row o h e = absurd (omega arith)
+two_found zero row r h m = m
+two_found (suc zero) row r h m = m
+two_found (suc (suc zero)) row r h m = m
+two_found (suc (suc (suc n))) row r h m = absurd (omega arith)
+
+-- what is known of an item found stands for what is made of it
+each_found : {A : Type 0} (o : Option A) (none : Type 0) (P Q : A → Type 0) → ((x : A) → P x → Q x) → MatchOption o none P → MatchOption o none Q
+each_found None none P Q h m = m
+each_found (Some x) none P Q h m = h x m
 
 two_items : {A : Type 0} (xs : List A) (d : A) → length xs ≡ 2 → xs ≡ get_or xs 0 d ∷ get_or xs 1 d ∷ []
 two_items [] d h = absurd (omega arith)
@@ -74,18 +71,12 @@ two_items (x ∷ y ∷ z ∷ xs) d h = absurd (omega arith)
 abbrev pub loss_listed : List ℕ → ℕ → FamilyLoss
 loss_listed losses f = record { family = f; loss = get_or losses f 0 }
 
-module _ (s : Scene) (losses : List ℕ) (held : losses ≡ in_scene each_loss s) (few : length s.families.now ≤ 2) (listed : List FamilyLoss) (long : length listed ≡ 2) (each : (f : ℕ) → f < 2 → get_or listed f (loss_listed losses 0) ≡ loss_listed losses f) (o : Option (FamilyLoss × ℕ)) (found : o ≡ first_least costlier (take (length s.families.now) listed)) where
-  found_costliest : Found (costliest s.last (cards_of s) (cells_of s)) o
-  unfolding costliest
-  found_costliest =
-      let row : ℕ → FamilyLoss = λ f. record { family = f; loss = family_loss s.last (cards_of s) (cells_of s) f } in
-      let at : (f : ℕ) → f < 2 → get_or listed f (loss_listed losses 0) ≡ row f = λ f h. each f h ∙ ap (λ (x : ℕ). record { family = f; loss = x }) (loss_at s losses held f h) in
-      let is : listed ≡ row 0 ∷ row 1 ∷ [] = two_items listed (loss_listed losses 0) long ∙ ap₂ (λ (x y : FamilyLoss). x ∷ y ∷ []) (at 0 (omega arith)) (at 1 (omega arith)) in
-      let whole : length s.families.now - 0 ≡ length s.families.now = omega arith in
-      two_found (length s.families.now) row o few (found ∙ ap₂ (λ (n : ℕ) (xs : List FamilyLoss). first_least costlier (take n xs)) (sym whole) is)
-
-  pub costliest_some : (x : FamilyLoss) (i : ℕ) → o ≡ Some (x, i) → i ≡ costliest s.last (cards_of s) (cells_of s)
-  costliest_some = found_costliest.some
-
-  pub costliest_none : o ≡ None → 0 ≡ costliest s.last (cards_of s) (cells_of s)
-  costliest_none = found_costliest.none
+pub costliest_found : (s : Scene) (losses : List ℕ) → losses ≡ in_scene each_loss s → length s.families.now ≤ 2 → (listed : List FamilyLoss) → length listed ≡ 2 → ((f : ℕ) → f < 2 → get_or listed f (loss_listed losses 0) ≡ loss_listed losses f) → (o : Option (FamilyLoss × ℕ)) (P : FamilyLoss × ℕ → Type 0) (r : ℕ) → o ≡ first_least costlier (take (length s.families.now) listed) → ((x : FamilyLoss × ℕ) → P x → r ≡ x.1) → MatchOption o (r ≡ 0) P → r ≡ costliest s.last (cards_of s) (cells_of s)
+unfolding costliest
+costliest_found s losses held few listed long each o P r found says m =
+    let row : ℕ → FamilyLoss = λ f. record { family = f; loss = family_loss s.last (cards_of s) (cells_of s) f } in
+    let at : (f : ℕ) → f < 2 → get_or listed f (loss_listed losses 0) ≡ row f = λ f h. each f h ∙ ap (λ (x : ℕ). record { family = f; loss = x }) (loss_at s losses held f h) in
+    let is : listed ≡ row 0 ∷ row 1 ∷ [] = two_items listed (loss_listed losses 0) long ∙ ap₂ (λ (x y : FamilyLoss). x ∷ y ∷ []) (at 0 (omega arith)) (at 1 (omega arith)) in
+    let whole : length s.families.now ≡ length s.families.now - 0 = omega arith in
+    let among : o ≡ first_least costlier (take (length s.families.now - 0) (row 0 ∷ row 1 ∷ [])) = found ∙ ap₂ (λ (n : ℕ) (xs : List FamilyLoss). first_least costlier (take n xs)) whole is in
+    two_found (length s.families.now) row r few (subst (λ (q : Option (FamilyLoss × ℕ)). MatchOption q (r ≡ 0) (λ x. r ≡ x.1)) among (each_found o (r ≡ 0) P (λ x. r ≡ x.1) says m))

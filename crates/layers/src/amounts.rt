@@ -106,9 +106,6 @@ impl<'a> Losses<'a> {
             family,
             loss: self.losses[family],
         });
-        match least(&listed[..self.fitted.scene.families.len()]) {
-            Some((_, place)) => place,
-            None => 0,
-        }
+        least(&listed[..self.fitted.scene.families.len()]).map_or(0, |(_, place)| place)
     }
 }

@@ -1,6 +1,6 @@
 // A family at a point, and the worst of its row.
-ghost use Rattle.std.specs.Prelude.{◌≡◌, ◌^◌, ◌<◌, ◌≤◌, true, false, length, pos, unsigned_abs};
-ghost use Rattle.margin.specs.Book.{in_family, netted_family, window_of};
+ghost use Rattle.std.specs.Prelude.{◌≡◌, ◌^◌, ◌≤◌, unsigned_abs};
+ghost use Rattle.margin.specs.Book.{netted_family, window_of};
 ghost use Rattle.margin.specs.Layers.{window_start, window_end, worst_within, family_result};
 ghost use Rattle.layers.specs.Scenes.{cards_of, cells_of, basket_part};
 
@@ -27,32 +27,21 @@ fn last_within(last: usize, w: usize, p: usize) -> usize
 }
 
 impl<'a> Scene<'a> {
-    fn in_family(&self, f: usize, b: usize) -> bool
-        requires { b < length self.now.baskets.now }
-        ensures { result ≡ in_family (cards_of self.now) f b }
-    {
-        names(self.baskets[b].family, f)
-    }
-
     pub fn is_netted_family(&self, f: usize) -> bool
         ensures { result ≡ netted_family (cards_of self.now) f }
     {
-        if f < self.families.len() {
-            names(self.families[f].rule, 1)
-        } else {
-            false
-        }
+        self.families
+            .get(f)
+            .is_some_and(|family| names(family.rule, 1))
     }
 
     // How many points a basket of the family may lie from the family's point.
     pub fn window(&self, f: usize) -> usize
         ensures { result ≡ window_of (cards_of self.now) f }
     {
-        if f < self.families.len() {
-            number(self.families[f].window)
-        } else {
-            0
-        }
+        self.families
+            .get(f)
+            .map_or(0, |family| number(family.window))
     }
 }
 
@@ -82,28 +71,16 @@ impl<'a> BasketRows<'a> {
         }
     }
 
-    // The same, and 0 where the basket is not one of the family's.
-    fn basket_share(&self, f: usize, p: usize, b: usize) -> i128
-        requires basket { b < length self.now.fitted.scene.baskets.now }
-        requires point { p ≤ self.now.fitted.scene.last }
-        ensures value { result ≡ elim (in_family (cards_of self.now.fitted.scene) f b) [ true ↦ basket_part self.now.fitted.scene f p b | false ↦ pos 0 ] }
-        ensures size { unsigned_abs result ≤ 2 ^ 76 }
-    {
-        if self.fitted.scene.in_family(f, b) {
-            self.basket_part(f, p, b)
-        } else {
-            0
-        }
-    }
-
     pub fn family_result(&self, f: usize, p: usize) -> i128
         requires { p ≤ self.now.fitted.scene.last }
         ensures value { result ≡ family_result self.now.fitted.scene.last (cards_of self.now.fitted.scene) (cells_of self.now.fitted.scene) f p }
         ensures size { unsigned_abs result ≤ 2 ^ 78 }
     {
         let mut sum = 0;
-        for b in 0..self.fitted.scene.baskets.len() {
-            sum += self.basket_share(f, p, b);
+        for (b, basket) in self.fitted.scene.baskets.iter().enumerate() {
+            if names(basket.family, f) {
+                sum += self.basket_part(f, p, b);
+            }
         }
         sum
     }

@@ -1,5 +1,5 @@
 // The world handed out, as far as it is chosen from the cells.
-ghost use Rattle.std.specs.Prelude.{◌≡◌, ℕ, ◌+◌, ◌-◌, ◌<◌, ◌≤◌, Some};
+ghost use Rattle.std.specs.Prelude.{◌≡◌, ℕ, ◌<◌, ◌≤◌, Some};
 ghost use Rattle.margin.specs.Book.{named, basket as basket_card, month as month_card};
 ghost use Rattle.margin.specs.HandedOut.{take_if_below0, column_at, kept_with, month_in, basket_in, family_point, basket_point, month_kept};
 ghost use Rattle.layers.specs.Rows.{Lists};
@@ -17,19 +17,7 @@ fn column_at(first: usize, place: usize) -> Option<usize>
     requires { (first < 7) × (place ≤ 2) }
     ensures { result ≡ column_at first place }
 {
-    if place == 0 {
-        None
-    } else {
-        Some(column_from(first, place))
-    }
-}
-
-// The column at a place that is one.
-fn column_from(first: usize, place: usize) -> usize
-    requires { (first < 7) × ((1 ≤ place) × (place ≤ 2)) }
-    ensures { result ≡ first + (place - 1) }
-{
-    first + place - 1
+    place.checked_sub(1).map(|past| first + past)
 }
 
 // What may be left out is taken only where its result is below 0.
@@ -44,22 +32,16 @@ impl<'a> Scene<'a> {
     fn family_of(&self, b: usize) -> usize
         ensures { result ≡ named (basket_card (cards_of self.now) b).family }
     {
-        if b < self.baskets.len() {
-            number(self.baskets[b].family)
-        } else {
-            0
-        }
+        self.baskets
+            .get(b)
+            .map_or(0, |basket| number(basket.family))
     }
 
     // The number of the basket that a month names.
     fn basket_of(&self, m: usize) -> usize
         ensures { result ≡ named (month_card (cards_of self.now) m).basket }
     {
-        if m < self.months.len() {
-            number(self.months[m].basket)
-        } else {
-            0
-        }
+        self.months.get(m).map_or(0, |month| number(month.basket))
     }
 }
 

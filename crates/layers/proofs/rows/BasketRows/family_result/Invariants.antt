@@ -5,4 +5,7 @@ use Rattle.layers.specs.Scenes.{cards_of, basket_part}
 use Rattle.layers.proofs.rows.BasketRows.family_result.Given as goal
 
 abbrev pub invariant-loop-b : goal.invariant-loop-b
-invariant-loop-b l = (l.sum ≡ total l.b (in_family (cards_of l.self.fitted.scene) l.f) (λ b. basket_part l.self.fitted.scene l.f l.p b)) × (nat_abs l.sum ≤ l.b * 2 ^ 76)
+invariant-loop-b l = record {
+  value : l.sum ≡ total l.b (in_family (cards_of l.self.fitted.scene) l.f) (λ b. basket_part l.self.fitted.scene l.f l.p b);
+  size : nat_abs l.sum ≤ l.b * 2 ^ 76;
+}

@@ -1,17 +1,14 @@
-use Rattle.std.proofs.Common.{get_or, pos, sym, ap, arith, w64, SFits, rules}
-use lib.ListN.{get_or-eq_default}
+use Rattle.std.proofs.Common.{get_or, pos, refl, w64, SFits, to_z, of_z, rules}
 use Rattle.std.proofs.lemmas.Int.{to_z-of_z}
 use Rattle.terms.specs.declared.cards.Month.{Month}
 use Rattle.margin.specs.Book.{named}
+use Rattle.layers.proofs.Names.{looked_up}
 use Rattle.layers.proofs.scene.Scene.basket_of.Goals as goal
 
-pub returns-then-m-self : goal.returns-then-m-self
-returns-then-m-self c =
-    let fits : SFits w64 (get_or c.args.self.now.months.now c.args.m (record { basket = pos 0 })).basket = search rules in
-    simp to_z-of_z at c.number.ensures
-
-pub returns-else-m-self : goal.returns-else-m-self
+pub returns : goal.returns
 unfolding named
-returns-else-m-self c =
+returns c =
+    let items = c.args.self.now.months.now in
     let none : Month = record { basket = pos 0 } in
-    sym (ap (λ (m : Month). named m.basket) (get_or-eq_default c.args.self.now.months.now none (omega arith)))
+    let fits : SFits w64 (get_or items c.args.m none).basket = search rules in
+    simp to_z-of_z at (looked_up items c.args.m none (λ (x : Month). named (to_z w64 (of_z w64 x.basket))) c.get.result _ _ c.map_or.result refl c.get.ensures.lookup.3 (λ x p. search rules) c.map_or.ensures)
