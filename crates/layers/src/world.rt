@@ -1,7 +1,7 @@
 // The world handed out, as far as it is chosen from the cells.
-ghost use Rattle.std.specs.Prelude.{◌≡◌, ℕ, ◌<◌, ◌≤◌, Some};
+ghost use Rattle.std.specs.Prelude.{◌≡◌, ℕ, ◌<◌, ◌≤◌, Some, Option};
 ghost use Rattle.margin.specs.Book.{named, basket as basket_card, month as month_card};
-ghost use Rattle.margin.specs.HandedOut.{take_if_below0, column_at, kept_with, month_in, basket_in, family_point, basket_point, month_kept};
+ghost use Rattle.margin.specs.HandedOut.{up_to, take_if_below0, column_at, kept_with, month_in, basket_in, family_point, basket_point, month_kept};
 ghost use Rattle.layers.specs.Rows.{Lists};
 ghost use Rattle.layers.specs.Scenes.{cards_of, cells_of, family_choice, basket_choice, month_choice};
 
@@ -25,6 +25,15 @@ fn if_below_0<T: Drop>(res: i128, item: T) -> Option<T>
     ensures { result ≡ take_if_below0 res item }
 {
     (res < 0).then_some(item)
+}
+
+// What is chosen for each number below a count, and none beyond.
+fn chosen<T, F: Fn(usize) -> Option<T>, const N: usize>(count: usize, choice: F) -> [Option<T>; N]
+    requires called { F.IsAlwaysCallable choice }
+    requires room { count ≤ N }
+    ensures { (row : ℕ → Option T) → ((i : ℕ) (r : Option T) → F.post choice i r → r ≡ row i) → Lists (up_to count row) result }
+{
+    array::from_fn(|i| if i < count { choice(i) } else { None })
 }
 
 impl<'a> Scene<'a> {
@@ -113,54 +122,24 @@ impl<'a> BasketRows<'a> {
         self.fitted.month_in(b, p, m)
     }
 
-    fn chosen_family(&self, f: usize) -> Option<usize>
-        ensures { result ≡ family_choice self.now.fitted.scene f }
-    {
-        if f < self.fitted.scene.families.len() {
-            self.family_point(f)
-        } else {
-            None
-        }
-    }
-
-    fn chosen_basket(&self, b: usize) -> Option<usize>
-        ensures { result ≡ basket_choice self.now.fitted.scene b }
-    {
-        if b < self.fitted.scene.baskets.len() {
-            self.basket_point(b)
-        } else {
-            None
-        }
-    }
-
-    fn chosen_month(&self, m: usize) -> Option<Kept>
-        ensures { result ≡ month_choice self.now.fitted.scene m }
-    {
-        if m < self.fitted.scene.months.len() {
-            self.month_kept(m)
-        } else {
-            None
-        }
-    }
-
     // The families' points in the world handed out.
     pub fn chosen_families(&self) -> [Option<usize>; 2]
         ensures { Lists (family_choice self.now.fitted.scene) result }
     {
-        array::from_fn(|f| self.chosen_family(f))
+        chosen(self.fitted.scene.families.len(), |f| self.family_point(f))
     }
 
     // The baskets' points.
     pub fn chosen_baskets(&self) -> [Option<usize>; 4]
         ensures { Lists (basket_choice self.now.fitted.scene) result }
     {
-        array::from_fn(|b| self.chosen_basket(b))
+        chosen(self.fitted.scene.baskets.len(), |b| self.basket_point(b))
     }
 
     // The months' columns.
     pub fn chosen_months(&self) -> [Option<Kept>; 8]
         ensures { Lists (month_choice self.now.fitted.scene) result }
     {
-        array::from_fn(|m| self.chosen_month(m))
+        chosen(self.fitted.scene.months.len(), |m| self.month_kept(m))
     }
 }
