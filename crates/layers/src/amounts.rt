@@ -8,6 +8,7 @@ ghost use Rattle.layers.specs.Scenes.{in_scene, cards_of, cells_of, worsts_of};
 use crate::fitted::Fitted;
 use crate::pick::least_between;
 use crate::rows::BasketRows;
+use crate::scene::POINTS;
 use order::{FamilyLoss, least};
 use std::array;
 
@@ -38,7 +39,7 @@ pub fn loss_of(res: i128) -> u128
 }
 
 impl<'a> BasketRows<'a> {
-    fn family_row(&self, f: usize) -> [i128; 17]
+    fn family_row(&self, f: usize) -> [i128; POINTS]
         ensures { Holds (family_result self.now.fitted.scene.last (cards_of self.now.fitted.scene) (cells_of self.now.fitted.scene) f) (2 ^ 78) 17 (self.now.fitted.scene.last + 1) result }
     {
         array::from_fn(|p| {
@@ -95,7 +96,7 @@ impl<'a> Losses<'a> {
     pub fn margin(&self) -> u64
         ensures { result ≡ margin_of self.now.fitted.scene.last (cards_of self.now.fitted.scene) (cells_of self.now.fitted.scene) }
     {
-        ((self.grains() + 79_999) / 80_000) as u64
+        self.grains().div_ceil(80_000) as u64
     }
 
     // The family with the greatest loss, the lowest among equals.

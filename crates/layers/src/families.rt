@@ -14,7 +14,7 @@ use crate::scene::Scene;
 fn first_within(w: usize, p: usize) -> usize
     ensures { result ≡ window_start w p }
 {
-    p - w.min(p)
+    p.saturating_sub(w)
 }
 
 // The last one. No grid has more than 17 points, and no sum wraps.

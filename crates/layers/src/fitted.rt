@@ -3,7 +3,7 @@ ghost use Rattle.std.specs.Prelude.{◌≡◌, ◌^◌, ◌<◌, ◌≤◌, unsi
 ghost use Rattle.layers.specs.Scenes.{Fits, cells_of};
 ghost use Rattle.layers.specs.Tables.{place_of};
 
-use crate::scene::Scene;
+use crate::scene::{COLUMNS, POINTS, Scene};
 
 // A scene with as many cards as an account may have, and with room for their cells, none of which is too large to be added up.
 #[derive(Clone, Copy, Drop)]
@@ -18,7 +18,7 @@ fn place(m: usize, p: usize, k: usize) -> usize
     ensures value { result ≡ place_of m p k }
     ensures inside { result < 952 }
 {
-    (m * 17 + p) * 7 + k
+    (m * POINTS + p) * COLUMNS + k
 }
 
 impl<'a> Fitted<'a> {
@@ -28,7 +28,7 @@ impl<'a> Fitted<'a> {
         ensures size { unsigned_abs result ≤ 2 ^ 70 }
     {
         let scene = &self.scene;
-        if m < scene.months.len() && p <= scene.last && k < 7 {
+        if m < scene.months.len() && p <= scene.last && k < COLUMNS {
             scene.cells[place(m, p, k)]
         } else {
             0

@@ -5,6 +5,7 @@ ghost use Rattle.layers.specs.Scenes.{cells_of};
 
 use crate::fitted::Fitted;
 use crate::pick::{least_of_three, least_with_0};
+use crate::scene::{RATE, TWIST};
 
 impl<'a> Fitted<'a> {
     // The least of the volatility columns, with the lowest column that has it.
@@ -21,7 +22,7 @@ impl<'a> Fitted<'a> {
         ensures size { unsigned_abs result.0 ≤ 2 ^ 70 }
         ensures place { result.1 ≤ 2 }
     {
-        least_with_0(self.cell(m, p, 3), self.cell(m, p, 4))
+        least_with_0(self.cell(m, p, RATE), self.cell(m, p, RATE + 1))
     }
 
     // The least of 0 and the two twist columns.
@@ -30,7 +31,7 @@ impl<'a> Fitted<'a> {
         ensures size { unsigned_abs result.0 ≤ 2 ^ 70 }
         ensures place { result.1 ≤ 2 }
     {
-        least_with_0(self.cell(m, p, 5), self.cell(m, p, 6))
+        least_with_0(self.cell(m, p, TWIST), self.cell(m, p, TWIST + 1))
     }
 
     pub fn curve_result(&self, m: usize, p: usize) -> i128

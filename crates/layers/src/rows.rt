@@ -3,18 +3,19 @@ ghost use Rattle.std.specs.Prelude.{◌≡◌};
 ghost use Rattle.layers.specs.Scenes.{HoldsBasket, HoldsBaskets};
 
 use crate::fitted::Fitted;
+use crate::scene::POINTS;
 use std::array;
 
 // A scene with the results of each basket at 17 points.
 #[derive(Clone, Copy, Drop)]
 pub struct BasketRows<'a> {
     pub fitted: Fitted<'a>,
-    pub rows: [[i128; 17]; 4],
+    pub rows: [[i128; POINTS]; 4],
     ghost held: { HoldsBaskets fitted.scene rows },
 }
 
 impl<'a> Fitted<'a> {
-    fn basket_row(&self, b: usize) -> [i128; 17]
+    fn basket_row(&self, b: usize) -> [i128; POINTS]
         ensures { HoldsBasket self.now.scene b result }
     {
         array::from_fn(|p| self.basket_result(b, p))
@@ -38,7 +39,7 @@ impl<'a> Fitted<'a> {
 
 impl<'a> BasketRows<'a> {
     // A basket's row, worked out where it is none of those that are kept.
-    pub(crate) fn row(&self, b: usize) -> [i128; 17]
+    pub(crate) fn row(&self, b: usize) -> [i128; POINTS]
         ensures { HoldsBasket self.now.fitted.scene b result }
     {
         if b < 4 {

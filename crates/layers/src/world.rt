@@ -8,7 +8,7 @@ ghost use Rattle.layers.specs.Scenes.{cards_of, cells_of, family_choice, basket_
 use crate::fitted::Fitted;
 use crate::naming::number;
 use crate::rows::BasketRows;
-use crate::scene::Scene;
+use crate::scene::{RATE, Scene, TWIST};
 use margin::choice::Kept;
 use std::array;
 
@@ -61,8 +61,8 @@ impl<'a> Fitted<'a> {
     {
         Kept {
             volatility: k,
-            rate: column_at(3, self.rate_result(m, p).1),
-            twist: column_at(5, self.twist_result(m, p).1),
+            rate: column_at(RATE, self.rate_result(m, p).1),
+            twist: column_at(TWIST, self.twist_result(m, p).1),
         }
     }
 

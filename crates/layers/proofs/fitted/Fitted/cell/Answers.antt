@@ -5,11 +5,11 @@ use Rattle.layers.specs.Scenes.{cells_of}
 use Rattle.layers.specs.Tables.{place_of}
 use Rattle.layers.proofs.Grids.{on_grid, off_grid}
 use Rattle.layers.proofs.fitted.Fitted.cell.Goals as goal
-use Rattle.layers.proofs.fitted.Fitted.cell.Goals.{else-m-scene-via-then-m-scene+then-p-scene+else-k-lt7, else-m-scene-via-then-m-scene+else-p-scene, else-m-scene-via-else-m-scene}
+use Rattle.layers.proofs.fitted.Fitted.cell.Goals.{else-m-scene-via-then-m-scene+then-p-scene+else-k-lt-COLUMNS, else-m-scene-via-then-m-scene+else-p-scene, else-m-scene-via-else-m-scene}
 
-pub returns-then-k-lt7 : goal.returns-then-k-lt7
+pub returns-then-k-lt-COLUMNS : goal.returns-then-k-lt-COLUMNS
 unfolding cells_of
-returns-then-k-lt7 c =
+returns-then-k-lt-COLUMNS c =
     let cells = c.args.self.now.scene.cells.now in
     let fits : SFits w128 (get_or cells c.place.result (pos 0)) = search rules in
     let is : to_z w128 (of_z w128 (get_or cells c.place.result (pos 0))) ≡ get_or cells c.place.result (pos 0) = to_z-of_z w128 _ fits in
@@ -25,7 +25,7 @@ returns-else-m-scene c =
     let off = off_grid c.args.self.now.scene.last (length c.args.self.now.scene.months.now) (λ m p k. get_or c.args.self.now.scene.cells.now (place_of m p k) (pos 0)) c.args.m c.args.p c.args.k in
     record {
       value = elim c.else-m-scene.branch [
-        | else-m-scene-via-then-m-scene+then-p-scene+else-k-lt7 w ↦ sym (off (λ h i j. omega arith))
+        | else-m-scene-via-then-m-scene+then-p-scene+else-k-lt-COLUMNS w ↦ sym (off (λ h i j. omega arith))
         | else-m-scene-via-then-m-scene+else-p-scene w ↦ sym (off (λ h i j. omega arith))
         | else-m-scene-via-else-m-scene w ↦ sym (off (λ h i j. omega arith))
       ];
