@@ -1,6 +1,7 @@
 // A month at a point.
-ghost use Rattle.std.specs.Prelude.{◌≡◌, ◌^◌, ◌≤◌, unsigned_abs};
+ghost use Rattle.std.specs.Prelude.{◌≡◌, ◌+◌, ◌^◌, ◌<◌, ◌≤◌, pos, unsigned_abs};
 ghost use Rattle.margin.specs.Layers.{volatility_result, rate_result, twist_result, curve_result, month_result};
+ghost use Rattle.margin.specs.Sums.{least3};
 ghost use Rattle.layers.specs.Scenes.{cells_of};
 
 use crate::fitted::Fitted;
@@ -16,13 +17,23 @@ impl<'a> Fitted<'a> {
         least_of_three(self.cell(m, p, 0), self.cell(m, p, 1), self.cell(m, p, 2))
     }
 
+    // The least of 0 and a column and the next.
+    fn least_of_pair(&self, m: usize, p: usize, first: usize) -> (i128, usize)
+        requires { first < 7 }
+        ensures value { result ≡ least3 (pos 0) (cells_of self.now.scene m p first) (cells_of self.now.scene m p (first + 1)) }
+        ensures size { unsigned_abs result.0 ≤ 2 ^ 70 }
+        ensures place { result.1 ≤ 2 }
+    {
+        least_with_0(self.cell(m, p, first), self.cell(m, p, first + 1))
+    }
+
     // The least of 0 and the two rate columns; its place is 0 where neither is taken.
     pub fn rate_result(&self, m: usize, p: usize) -> (i128, usize)
         ensures value { result ≡ rate_result (cells_of self.now.scene) m p }
         ensures size { unsigned_abs result.0 ≤ 2 ^ 70 }
         ensures place { result.1 ≤ 2 }
     {
-        least_with_0(self.cell(m, p, RATE), self.cell(m, p, RATE + 1))
+        self.least_of_pair(m, p, RATE)
     }
 
     // The least of 0 and the two twist columns.
@@ -31,7 +42,7 @@ impl<'a> Fitted<'a> {
         ensures size { unsigned_abs result.0 ≤ 2 ^ 70 }
         ensures place { result.1 ≤ 2 }
     {
-        least_with_0(self.cell(m, p, TWIST), self.cell(m, p, TWIST + 1))
+        self.least_of_pair(m, p, TWIST)
     }
 
     pub fn curve_result(&self, m: usize, p: usize) -> i128
