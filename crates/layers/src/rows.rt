@@ -42,10 +42,9 @@ impl<'a> BasketRows<'a> {
     pub(crate) fn row(&self, b: usize) -> [i128; POINTS]
         ensures { HoldsBasket self.now.fitted.scene b result }
     {
-        if b < 4 {
-            self.rows[b]
-        } else {
-            self.fitted.basket_row(b)
+        match self.rows.get(b) {
+            Some(row) => *row,
+            None => self.fitted.basket_row(b),
         }
     }
 }
