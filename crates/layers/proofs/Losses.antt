@@ -61,7 +61,7 @@ each_found : {A : Type 0} (o : Option A) (none : Type 0) (P Q : A → Type 0) �
 each_found None none P Q h m = m
 each_found (Some x) none P Q h m = h x m
 
-two_items : {A : Type 0} (xs : List A) (d : A) → length xs ≡ 2 → xs ≡ get_or xs 0 d ∷ get_or xs 1 d ∷ []
+pub two_items : {A : Type 0} (xs : List A) (d : A) → length xs ≡ 2 → xs ≡ get_or xs 0 d ∷ get_or xs 1 d ∷ []
 two_items [] d h = absurd (omega arith)
 two_items (x ∷ []) d h = absurd (omega arith)
 two_items (x ∷ y ∷ []) d h = refl

@@ -66,7 +66,7 @@ impl<'a> BasketRows<'a> {
     {
         Worsts {
             fitted: self.fitted,
-            worsts: [self.family_worst(0), self.family_worst(1)],
+            worsts: array::from_fn(|f| self.family_worst(f)),
         }
     }
 }
@@ -78,7 +78,7 @@ impl<'a> Worsts<'a> {
     {
         Losses {
             fitted: self.fitted,
-            losses: [loss_of(self.worsts[0].0), loss_of(self.worsts[1].0)],
+            losses: array::from_fn(|f| loss_of(self.worsts[f].0)),
         }
     }
 }
