@@ -4,6 +4,7 @@ ghost use Rattle.margin.specs.Book.{netted_family, window_of};
 ghost use Rattle.margin.specs.Layers.{window_start, window_end, worst_within, family_result};
 ghost use Rattle.layers.specs.Scenes.{cards_of, cells_of, basket_part};
 
+use crate::fitted::Fitted;
 use crate::naming::names;
 pub use crate::naming::number;
 use crate::pick::{least_between, lesser_of_0};
@@ -45,6 +46,23 @@ impl<'a> Scene<'a> {
     }
 }
 
+impl<'a> Fitted<'a> {
+    // The worst of a basket within w points of p, with its first point, where the basket's results are not at hand.
+    fn worst_worked_out(&self, w: usize, b: usize, p: usize) -> (i128, usize)
+        requires { p ≤ self.now.scene.last }
+        ensures value { result ≡ worst_within self.now.scene.last (cards_of self.now.scene) (cells_of self.now.scene) w b p }
+        ensures size { unsigned_abs result.0 ≤ 2 ^ 76 }
+    {
+        let row = self.basket_row(b);
+        least_between(
+            &row,
+            0,
+            first_within(w, p),
+            last_within(self.scene.last, w, p),
+        )
+    }
+}
+
 impl<'a> BasketRows<'a> {
     // The worst of a basket within w points of p, with its first point.
     pub fn worst_within(&self, w: usize, b: usize, p: usize) -> (i128, usize)
@@ -53,8 +71,10 @@ impl<'a> BasketRows<'a> {
         ensures size { unsigned_abs result.0 ≤ 2 ^ 76 }
     {
         let last = self.fitted.scene.last;
-        let row = self.row(b);
-        least_between(&row, 0, first_within(w, p), last_within(last, w, p))
+        match self.rows.get(b) {
+            Some(row) => least_between(row, 0, first_within(w, p), last_within(last, w, p)),
+            None => self.fitted.worst_worked_out(w, b, p),
+        }
     }
 
     // What a basket gives to its family at a point.
@@ -67,7 +87,7 @@ impl<'a> BasketRows<'a> {
         if scene.is_netted_family(f) {
             self.worst_within(scene.window(f), b, p).0
         } else {
-            lesser_of_0(self.row(b)[p])
+            lesser_of_0(self.result_at(b, p))
         }
     }
 

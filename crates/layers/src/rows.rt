@@ -1,6 +1,7 @@
 // The baskets' rows of results by points.
-ghost use Rattle.std.specs.Prelude.{◌≡◌};
-ghost use Rattle.layers.specs.Scenes.{HoldsBasket, HoldsBaskets};
+ghost use Rattle.std.specs.Prelude.{◌≡◌, ◌^◌, ◌≤◌, unsigned_abs};
+ghost use Rattle.margin.specs.Layers.{basket_result};
+ghost use Rattle.layers.specs.Scenes.{HoldsBasket, HoldsBaskets, cards_of, cells_of};
 
 use crate::fitted::Fitted;
 use crate::scene::POINTS;
@@ -15,7 +16,7 @@ pub struct BasketRows<'a> {
 }
 
 impl<'a> Fitted<'a> {
-    fn basket_row(&self, b: usize) -> [i128; POINTS]
+    pub(crate) fn basket_row(&self, b: usize) -> [i128; POINTS]
         ensures { HoldsBasket self.now.scene b result }
     {
         array::from_fn(|p| self.basket_result(b, p))
@@ -38,13 +39,15 @@ impl<'a> Fitted<'a> {
 }
 
 impl<'a> BasketRows<'a> {
-    // A basket's row, worked out where it is none of those that are kept.
-    pub(crate) fn row(&self, b: usize) -> [i128; POINTS]
-        ensures { HoldsBasket self.now.fitted.scene b result }
+    // A basket's result at a point, worked out where it is none of those that are kept.
+    pub(crate) fn result_at(&self, b: usize, p: usize) -> i128
+        requires { p ≤ self.now.fitted.scene.last }
+        ensures value { result ≡ basket_result (cards_of self.now.fitted.scene) (cells_of self.now.fitted.scene) b p }
+        ensures size { unsigned_abs result ≤ 2 ^ 76 }
     {
         match self.rows.get(b) {
-            Some(row) => *row,
-            None => self.fitted.basket_row(b),
+            Some(row) => row[p],
+            None => self.fitted.basket_result(b, p),
         }
     }
 }

@@ -91,7 +91,7 @@ impl<'a> BasketRows<'a> {
         if scene.is_netted_family(f) {
             Some(self.worst_within(scene.window(f), b, p).1)
         } else {
-            if_below_0(self.row(b)[p], p)
+            if_below_0(self.result_at(b, p), p)
         }
     }
 

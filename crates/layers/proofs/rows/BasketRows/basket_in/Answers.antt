@@ -1,4 +1,4 @@
-use Rattle.std.proofs.Common.{get_or, pos, sym, ap, ◌∙◌, arith, SFits, rules}
+use Rattle.std.proofs.Common.{sym, ap, ◌∙◌, SFits, rules}
 use mir.Syntax.{w128}
 use Rattle.std.proofs.lemmas.Int.{to_z-of_z}
 use Rattle.margin.proofs.ByRule.{netted_choice, half_choice}
@@ -17,7 +17,6 @@ returns-else-is_netted_family c =
     let s = c.args.self.now.fitted.scene in
     let rule = sym c.is_netted_family.ensures ∙ c.if-is_netted_family.false in
     let chosen = half_choice s.last (cards_of s) (cells_of s) c.args.f c.args.p c.args.b rule in
-    let fits : SFits w128 (get_or c.row.result c.args.p (pos 0)) = search rules in
+    let fits : SFits w128 c.result_at.result = search rules in
     let taken = simp to_z-of_z at c.if_below_0.ensures in
-    let entry = c.row.ensures.so_far c.args.p (omega (arith, c.args.self.now.fitted.fits.few_points)) in
-    cc
+    cc c.result_at.ensures.value
