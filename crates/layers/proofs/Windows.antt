@@ -7,12 +7,10 @@ use Rattle.margin.specs.Layers.{window_start, window_end, basket_result, worst_w
 use Rattle.margin.specs.Sums.{least}
 use Rattle.margin.proofs.SumLaws.{least_same}
 
-pub worst_found : (last : ℕ) (cards : Cards) (cells : ℕ → ℕ → ℕ → ℤ) (row : List ℤ) (w b p start end : ℕ) (r : ℤ × ℕ) → p ≤ last → last ≤ 16 → ((k : ℕ) → k < 17 → get_or row k (pos 0) ≡ basket_result cards cells b k) → start ≡ window_start w p → end ≡ window_end last w p → r ≡ least le_z (λ q. get_or row (0 + q) (pos 0)) start (end - start) → r ≡ worst_within last cards cells w b p
-unfolding worst_within
-worst_found last cards cells row w b p start end r on_grid few_points held from to found =
-    found
-    ∙ ap₂ (λ (x y : ℕ). least le_z (λ q. get_or row (0 + q) (pos 0)) x (y - x)) from to
-    ∙ least_same le_z (λ q. get_or row (0 + q) (pos 0)) (basket_result cards cells b) (p - w) (min (p + w) last - (p - w)) (λ q h k. at q (omega arith))
+-- the least between two points, found in a row of a basket's results
+pub least_found : (cards : Cards) (cells : ℕ → ℕ → ℕ → ℤ) (b : ℕ) (row : List ℤ) (start end : ℕ) (r : ℤ × ℕ) → start ≤ end → end < 17 → ((k : ℕ) → k < 17 → get_or row k (pos 0) ≡ basket_result cards cells b k) → r ≡ least le_z (λ q. get_or row (0 + q) (pos 0)) start (end - start) → r ≡ least le_z (basket_result cards cells b) start (end - start)
+least_found cards cells b row start end r ordered within held found =
+    found ∙ least_same le_z (λ q. get_or row (0 + q) (pos 0)) (basket_result cards cells b) start (end - start) (λ q h k. at q (omega arith))
   where
     at : (q : ℕ) → q < 17 → get_or row (0 + q) (pos 0) ≡ basket_result cards cells b q
     at q h = ap (λ (k : ℕ). get_or row k (pos 0)) (zero-add q) ∙ held q h

@@ -4,10 +4,9 @@ ghost use Rattle.margin.specs.Book.{netted_family, window_of};
 ghost use Rattle.margin.specs.Layers.{window_start, window_end, worst_within, family_result};
 ghost use Rattle.layers.specs.Scenes.{cards_of, cells_of, basket_part};
 
-use crate::fitted::Fitted;
 use crate::naming::names;
 pub use crate::naming::number;
-use crate::pick::{least_between, lesser_of_0};
+use crate::pick::lesser_of_0;
 use crate::rows::BasketRows;
 use crate::scene::Scene;
 
@@ -46,23 +45,6 @@ impl<'a> Scene<'a> {
     }
 }
 
-impl<'a> Fitted<'a> {
-    // The worst of a basket within w points of p, with its first point, where the basket's results are not at hand.
-    fn worst_worked_out(&self, w: usize, b: usize, p: usize) -> (i128, usize)
-        requires { p ≤ self.now.scene.last }
-        ensures value { result ≡ worst_within self.now.scene.last (cards_of self.now.scene) (cells_of self.now.scene) w b p }
-        ensures size { unsigned_abs result.0 ≤ 2 ^ 76 }
-    {
-        let row = self.basket_row(b);
-        least_between(
-            &row,
-            0,
-            first_within(w, p),
-            last_within(self.scene.last, w, p),
-        )
-    }
-}
-
 impl<'a> BasketRows<'a> {
     // The worst of a basket within w points of p, with its first point.
     pub fn worst_within(&self, w: usize, b: usize, p: usize) -> (i128, usize)
@@ -70,11 +52,11 @@ impl<'a> BasketRows<'a> {
         ensures value { result ≡ worst_within self.now.fitted.scene.last (cards_of self.now.fitted.scene) (cells_of self.now.fitted.scene) w b p }
         ensures size { unsigned_abs result.0 ≤ 2 ^ 76 }
     {
-        let last = self.fitted.scene.last;
-        match self.rows.get(b) {
-            Some(row) => least_between(row, 0, first_within(w, p), last_within(last, w, p)),
-            None => self.fitted.worst_worked_out(w, b, p),
-        }
+        self.least_in(
+            b,
+            first_within(w, p),
+            last_within(self.fitted.scene.last, w, p),
+        )
     }
 
     // What a basket gives to its family at a point.
