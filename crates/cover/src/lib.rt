@@ -26,6 +26,7 @@ use cells::book::Book;
 use cells::counted_orders;
 use cells::desk::Desk;
 use deck::deck::Deck;
+use layers::fitted::Fitted;
 use layers::outcome::Outcome;
 use layers::scene::Scene;
 use margin::choice::{Counted, World};
@@ -86,7 +87,8 @@ fn worked_out<'a>(deck: &'a Deck, cells: &'a [i128], last: usize) -> Outcome
     ensures baskets { ListsAll None (basket_choice last (deck_cards deck.now) (table_cells last (deck_cards deck.now) cells.now)) result.baskets }
     ensures months { ListsAll None (month_choice last (deck_cards deck.now) (table_cells last (deck_cards deck.now) cells.now)) result.months }
 {
-    view(deck, cells, last).outcome()
+    let scene = view(deck, cells, last);
+    Fitted { scene }.outcome()
 }
 
 // The layers' view of judged cards and a table of cells.

@@ -1,18 +1,40 @@
--- What follows from the sign and the size of a number: whether a card names a number, and which; and a result's loss.
-use Rattle.std.proofs.Common.{◌≡◌, ℕ, Bool, false, eqb, ℤ, pos, negsuc, nat_abs, ◌≤ℤ◌, ◌<ℤ◌, arith}
+-- What a conversion gives that fails below 0: whether a card names a number, and which; what a lookup gives; and a result's loss.
+use Rattle.std.proofs.Common.{◌≡◌, ℕ, ◌<◌, ◌≤◌, Bool, false, eqb, List, length, get_or, ℤ, pos, negsuc, nat_abs, ◌≤ℤ◌, ◌<ℤ◌, Some, None, Option, sym, refl, ap, ◌∙◌, arith, w64, SFits, Bor}
+use lib.ListN.{get_or-eq_default}
 use Rattle.std.proofs.lemmas.Int.{ints}
+use Rattle.std.specs.Int.{FitsUnsignedBits}
+use Rattle.std.specs.List.{HoldsAt}
+use Rattle.std.specs.Option.{MatchOption}
+use Rattle.std.specs.Prelude.{Result, Ok, Err}
+use Rattle.std.specs.Result.{OkIff, result_eq, result_unwrap_or}
 use Rattle.margin.specs.Layers.{loss_of}
 use Rattle.margin.specs.Book.{names, named}
 
-pub names_by : (name : ℤ) (i : ℕ) (r : Bool) → (pos 0 ≤ℤ name → r ≡ eqb (nat_abs name) i) → (name <ℤ pos 0 → r ≡ false) → r ≡ names name i
-unfolding names
-names_by (pos n) i r up down = up (omega (arith, ints))
-names_by (negsuc n) i r up down = down (omega (arith, ints))
+module _ {E : Type 0} (name : ℤ) (fits : SFits w64 name) (o : Result ℕ E) (is : OkIff o (FitsUnsignedBits 64 name) (nat_abs name)) where
+  pub names_by : (same : E → E → Bool) (i : ℕ) → result_eq eqb same o (Ok i) ≡ names name i
+  unfolding names
+  names_by same i = by name o fits is
+    where
+      by : (name : ℤ) (o : Result ℕ E) → SFits w64 name → OkIff o (FitsUnsignedBits 64 name) (nat_abs name) → result_eq eqb same o (Ok i) ≡ names name i
+      by (pos n) (Ok x) fits is = ap (λ (k : ℕ). eqb k i) is.1
+      by (pos n) (Err e) fits is = absurd (is (omega (arith, ints)))
+      by (negsuc n) (Ok x) fits is = absurd is.0
+      by (negsuc n) (Err e) fits is = refl
 
-pub named_by : (name : ℤ) (r : ℕ) → (pos 0 ≤ℤ name → r ≡ nat_abs name) → (name <ℤ pos 0 → r ≡ 0) → r ≡ named name
-unfolding named
-named_by (pos n) r up down = up (omega (arith, ints))
-named_by (negsuc n) r up down = down (omega (arith, ints))
+  pub named_by : result_unwrap_or o 0 ≡ named name
+  unfolding named
+  named_by = by name o fits is
+    where
+      by : (name : ℤ) (o : Result ℕ E) → SFits w64 name → OkIff o (FitsUnsignedBits 64 name) (nat_abs name) → result_unwrap_or o 0 ≡ named name
+      by (pos n) (Ok x) fits is = is.1
+      by (pos n) (Err e) fits is = absurd (is (omega (arith, ints)))
+      by (negsuc n) (Ok x) fits is = absurd is.0
+      by (negsuc n) (Err e) fits is = refl
+
+-- what is made of the item at a place, or of the item that is none, where there is nothing at that place
+pub looked_up : {A B : Type 0} (xs : List A) (i : ℕ) (none : A) (give : A → B) (o : Option (Bor A)) (P : Bor A → Type 0) (default r : B) → default ≡ give none → MatchOption o (length xs ≤ i) (λ x. (i < length xs) × HoldsAt (λ y. x.now ≡ y) xs i) → ((x : Bor A) → P x → r ≡ give x.now) → MatchOption o (r ≡ default) P → r ≡ give (get_or xs i none)
+looked_up xs i none give None P default r e at says m = m ∙ e ∙ ap give (sym (get_or-eq_default xs none at))
+looked_up xs i none give (Some x) P default r e at says m = says x m ∙ ap give (at.1 none)
 
 pub loss_by : (result : ℤ) (r : ℕ) → (result <ℤ pos 0 → r ≡ nat_abs result) → (pos 0 ≤ℤ result → r ≡ 0) → r ≡ loss_of result
 unfolding loss_of

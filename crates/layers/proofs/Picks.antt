@@ -1,5 +1,5 @@
 -- What the search finds in a row, as the layers speak of it.
-use Rattle.std.proofs.Common.{◌≡◌, ℕ, zero, suc, ◌+◌, ◌-◌, ◌<◌, ◌≤◌, Bool, true, false, List, [], ◌∷◌, length, get_or, take, drop, ℤ, pos, nat_abs, Some, Option, refl, ap, ◌∙◌, ap₂, arith, drop-cons}
+use Rattle.std.proofs.Common.{◌≡◌, ℕ, zero, suc, ◌+◌, ◌-◌, ◌<◌, ◌≤◌, Bool, true, false, List, [], ◌∷◌, length, get_or, take, drop, ℤ, pos, nat_abs, Some, Option, unwrap_or, refl, ap, ◌∙◌, ap₂, arith, drop-cons}
 use lib.Signed.{le_z}
 use Rattle.order.specs.Orders.{lesser_of, least_from, first_least}
 use Rattle.margin.specs.Sums.{least, of3, least3}
@@ -69,13 +69,13 @@ module _ {A : Type 0} (at_most : A → A → Bool) where
       next : suc (base + a) ≡ base + suc a
       next = omega arith
 
-  pub found_between : (d : A) (xs : List A) (base start end : ℕ) (o : Option (A × ℕ)) (x : A) (i : ℕ) → start ≤ end → base + end < length xs → o ≡ first_least at_most (take (base + end + 1 - (base + start)) (drop (base + start) xs)) → o ≡ Some (x, i) → ◌≡◌ {A = A × ℕ} (x, start + i) (least at_most (λ q. get_or xs (base + q) d) start (end - start))
-  found_between d xs base start end o x i ordered within found is =
+  pub found_between : (d : A) (xs : List A) (base start end : ℕ) (o : Option (A × ℕ)) (other : A × ℕ) (x : A) (i : ℕ) → start ≤ end → base + end < length xs → o ≡ first_least at_most (take (base + end + 1 - (base + start)) (drop (base + start) xs)) → ◌≡◌ {A = A × ℕ} (x, i) (unwrap_or o other) → ◌≡◌ {A = A × ℕ} (x, start + i) (least at_most (λ q. get_or xs (base + q) d) start (end - start))
+  found_between d xs base start end o other x i ordered within found is =
       let r = least at_most (λ q. get_or xs (base + q) d) start (end - start) in
       let from = least_from_lem (λ q. get_or xs (base + q) d) start (end - start) in
       let count : base + end + 1 - (base + start) ≡ suc (end - start) = omega arith in
       let there : first_least at_most (take (base + end + 1 - (base + start)) (drop (base + start) xs)) ≡ Some (r.0, r.1 - start + 0) = ap (λ (k : ℕ). first_least at_most (take k (drop (base + start) xs))) count ∙ part_least d xs base start (end - start) 0 (omega arith) in
-      let same : ◌≡◌ {A = A × ℕ} (x, i) (r.0, r.1 - start + 0) = cc in
+      let same : ◌≡◌ {A = A × ℕ} (x, i) (r.0, r.1 - start + 0) = is ∙ ap (λ (p : Option (A × ℕ)). unwrap_or p other) (found ∙ there) in
       let place : i ≡ r.1 - start + 0 = ap (λ (t : A × ℕ). t.1) same in
       ap₂ pair (ap (λ (t : A × ℕ). t.0) same) (omega arith)
     where

@@ -1,30 +1,20 @@
 -- What is taken and what is left out.
-use Rattle.std.proofs.Common.{◌≡◌, ℕ, zero, suc, ◌+◌, ◌-◌, ◌≤◌, true, false, ℤ, pos, Some, None, Option, sym, refl, ap, ◌∙◌, arith}
-use lib.Signed.{lt_z}
+use Rattle.std.proofs.Common.{◌≡◌, ℕ, zero, suc, ◌+◌, ◌-◌, ◌≤◌, ℤ, Some, None, Option, sym, refl, ap, ◌∙◌, arith}
+use Rattle.std.specs.Option.{MatchOption, SomeIff, IsSomeAnd}
 use Rattle.margin.specs.declared.choice.Kept.{Kept}
 use Rattle.margin.specs.Book.{Cards, named, basket, month}
 use Rattle.margin.specs.HandedOut.{take_if_below0, column_at, month_in, basket_in, family_point, basket_point, month_kept}
 use Rattle.margin.specs.Layers.{family_result, family_worst}
-use Rattle.margin.proofs.ByRule.{chosen}
 use Rattle.margin.proofs.Reached.{take_cases}
 use Rattle.margin.proofs.SumLaws.{least_is}
 
-pub taken : {A : Type 0} (result : ℤ) (a : A) → lt_z result (pos 0) ≡ true → Some a ≡ take_if_below0 result a
-unfolding take_if_below0
-taken {A} result a e = sym (chosen {A = Option A} (Some a) None (lt_z result (pos 0)) true e)
-
-pub left_out : {A : Type 0} (result : ℤ) (a : A) → lt_z result (pos 0) ≡ false → None ≡ take_if_below0 result a
-unfolding take_if_below0
-left_out {A} result a e = sym (chosen {A = Option A} (Some a) None (lt_z result (pos 0)) false e)
-
-pub no_column : (first place : ℕ) → place ≡ 0 → None ≡ column_at first place
+pub column_by : (first place : ℕ) (o r : Option ℕ) (P : ℕ → ℕ → Type 0) → SomeIff o (1 ≤ place) (place - 1) → ((x y : ℕ) → P x y → y ≡ first + x) → MatchOption o (r ≡ None) (λ x. IsSomeAnd r (P x)) → r ≡ column_at first place
 unfolding column_at
-no_column first place e = sym (ap (column_at first) e)
-
-pub a_column : (first place : ℕ) → (place ≡ 0 → ⊥) → Some (first + (place - 1)) ≡ column_at first place
-unfolding column_at
-a_column first zero h = absurd (h refl)
-a_column first (suc n) h = ap Some (omega arith)
+column_by first zero None r P is says m = m
+column_by first zero (Some x) r P is says m = absurd (omega (arith, is.0))
+column_by first (suc n) None r P is says m = absurd (is (omega arith))
+column_by first (suc n) (Some x) None P is says m = absurd m
+column_by first (suc n) (Some x) (Some y) P is says m = ap Some (says x y m ∙ (omega (arith, is.1)))
 
 -- a family that is taken stands on the grid
 pub point_on_grid : (last : ℕ) (cards : Cards) (cells : ℕ → ℕ → ℕ → ℤ) (f p : ℕ) → family_point last cards cells f ≡ Some p → p ≤ last

@@ -1,5 +1,5 @@
 -- The worst within a window, found in a list of the baskets' results; and what a family adds up.
-use Rattle.std.proofs.Common.{◌≡◌, ℕ, ◌+◌, ◌-◌, ◌*◌, ◌/◌, ◌%◌, ◌<◌, ◌≤◌, min, Bool, true, false, List, get_or, ℤ, pos, refl, ap, ◌∙◌, ap₂, zero-add, arith}
+use Rattle.std.proofs.Common.{◌≡◌, ℕ, ◌+◌, ◌-◌, ◌<◌, ◌≤◌, min, Bool, true, false, List, get_or, ℤ, pos, refl, ap, ◌∙◌, ap₂, zero-add, arith}
 use lib.Signed.{le_z}
 use Rattle.std.specs.Int.{int_min}
 use Rattle.margin.specs.Book.{Cards, netted_family, window_of, over_baskets}
@@ -7,19 +7,13 @@ use Rattle.margin.specs.Layers.{window_start, window_end, basket_result, worst_w
 use Rattle.margin.specs.Sums.{least}
 use Rattle.margin.proofs.SumLaws.{least_same}
 
--- a basket's entry at a point
-pub entry_at : (cards : Cards) (cells : ℕ → ℕ → ℕ → ℤ) (rows : List ℤ) (b q : ℕ) → b < 4 → q ≤ 16 → ((k : ℕ) → k < 68 → get_or rows k (pos 0) ≡ basket_result cards cells (k / 17) (k % 17)) → get_or rows (b * 17 + q) (pos 0) ≡ basket_result cards cells b q
-entry_at cards cells rows b q few_baskets few_points held =
-    let in-basket : (b * 17 + q) / 17 ≡ b = omega arith in
-    let at-point : (b * 17 + q) % 17 ≡ q = omega arith in
-    held (b * 17 + q) (omega arith) ∙ ap₂ (basket_result cards cells) in-basket at-point
-
-pub worst_found : (last : ℕ) (cards : Cards) (cells : ℕ → ℕ → ℕ → ℤ) (rows : List ℤ) (w b p start end : ℕ) (r : ℤ × ℕ) → p ≤ last → last ≤ 16 → b < 4 → ((k : ℕ) → k < 68 → get_or rows k (pos 0) ≡ basket_result cards cells (k / 17) (k % 17)) → start ≡ window_start w p → end ≡ window_end last w p → r ≡ least le_z (λ q. get_or rows (b * 17 + q) (pos 0)) start (end - start) → r ≡ worst_within last cards cells w b p
-unfolding worst_within
-worst_found last cards cells rows w b p start end r on_grid few_points few_baskets held from to found =
-    found
-    ∙ ap₂ (λ (x y : ℕ). least le_z (λ q. get_or rows (b * 17 + q) (pos 0)) x (y - x)) from to
-    ∙ least_same le_z (λ q. get_or rows (b * 17 + q) (pos 0)) (basket_result cards cells b) (p - w) (min (p + w) last - (p - w)) (λ q h k. entry_at cards cells rows b q few_baskets (omega arith) held)
+-- the least between two points, found in a row of a basket's results
+pub least_found : (cards : Cards) (cells : ℕ → ℕ → ℕ → ℤ) (b : ℕ) (row : List ℤ) (start end : ℕ) (r : ℤ × ℕ) → start ≤ end → end < 17 → ((k : ℕ) → k < 17 → get_or row k (pos 0) ≡ basket_result cards cells b k) → r ≡ least le_z (λ q. get_or row (0 + q) (pos 0)) start (end - start) → r ≡ least le_z (basket_result cards cells b) start (end - start)
+least_found cards cells b row start end r ordered within held found =
+    found ∙ least_same le_z (λ q. get_or row (0 + q) (pos 0)) (basket_result cards cells b) start (end - start) (λ q h k. at q (omega arith))
+  where
+    at : (q : ℕ) → q < 17 → get_or row (0 + q) (pos 0) ≡ basket_result cards cells b q
+    at q h = ap (λ (k : ℕ). get_or row k (pos 0)) (zero-add q) ∙ held q h
 
 -- a family adds up its baskets by its rule
 pub family_adds_up : (last : ℕ) (cards : Cards) (cells : ℕ → ℕ → ℕ → ℤ) (f p : ℕ) → over_baskets cards f (λ b. elim (netted_family cards f) [ true ↦ (worst_within last cards cells (window_of cards f) b p).0 | false ↦ int_min (pos 0) (basket_result cards cells b p) ]) ≡ family_result last cards cells f p

@@ -1,5 +1,5 @@
 -- What the program reads the layers from: cards and a table of cells.
-use Rattle.std.specs.Prelude.{◌≡◌, ℕ, ◌/◌, ◌%◌, ◌^◌, ◌<◌, ◌≤◌, true, false, List, [], ◌∷◌, length, get_or, ℤ, pos, Option, slice_index_or, unsigned_abs}
+use Rattle.std.specs.Prelude.{◌≡◌, ℕ, ◌^◌, ◌<◌, ◌≤◌, true, false, List, [], ◌∷◌, length, get_or, ℤ, pos, Option, slice_index_or, unsigned_abs}
 use Rattle.std.specs.Int.{int_min}
 use Rattle.margin.specs.Book.{Cards, named, month, netted_family, window_of}
 use Rattle.margin.specs.Cells.{gridded}
@@ -29,9 +29,13 @@ pub record Fits (s : Scene) : Type 0 where
   pub room : length s.cells.now ≡ 952
   pub bounded : (i : ℕ) → unsigned_abs (slice_index_or s.cells.now i (pos 0)) ≤ 2 ^ 70
 
--- a list that holds the results of every basket at 17 points
-abbrev pub HoldsBaskets : Scene → List ℤ → Type 0
-HoldsBaskets s rows = Holds (λ i. basket_result (cards_of s) (cells_of s) (i / 17) (i % 17)) (2 ^ 76) 68 68 rows
+-- a row that holds a basket's results at 17 points
+abbrev pub HoldsBasket : Scene → ℕ → List ℤ → Type 0
+HoldsBasket s b row = Holds (basket_result (cards_of s) (cells_of s) b) (2 ^ 76) 17 17 row
+
+-- rows that hold the results of every basket at 17 points
+abbrev pub HoldsBaskets : Scene → List (List ℤ) → Type 0
+HoldsBaskets s rows = (length rows ≡ 4) × ((b : ℕ) → b < 4 → HoldsBasket s b (slice_index_or rows b []))
 
 -- what a basket gives to its family at a point
 abbrev pub basket_part : Scene → ℕ → ℕ → ℕ → ℤ

@@ -1,150 +1,112 @@
 // The worst of each family, its loss, and the margin.
-ghost use Rattle.std.specs.Prelude.{◌≡◌, ℕ, ◌+◌, ◌^◌, ◌≤◌, pos, ◌≤ℤ◌, ◌<ℤ◌, slice_index, slice_index_or, unsigned_abs};
+ghost use Rattle.std.specs.Prelude.{◌≡◌, ℕ, ◌+◌, ◌^◌, ◌≤◌, pos, slice_index, slice_index_or, unsigned_abs};
 ghost use Rattle.margin.specs.Layers.{loss_of as loss_of_result, family_result, family_worst, grains as loss_in_grains, margin_of, costliest as costliest_of};
 ghost use Rattle.layers.specs.Families.{each_loss};
 ghost use Rattle.layers.specs.Rows.{Holds};
-ghost use Rattle.layers.specs.Scenes.{Fits, HoldsBaskets, in_scene, cards_of, cells_of, worsts_of};
+ghost use Rattle.layers.specs.Scenes.{in_scene, cards_of, cells_of, worsts_of};
 
+use crate::fitted::Fitted;
 use crate::pick::least_between;
-use crate::scene::Scene;
+use crate::rows::BasketRows;
+use crate::scene::POINTS;
 use order::{FamilyLoss, least};
+use std::array;
+
+// A scene with the worst result of every family's row that there may be, each with its first point.
+#[derive(Clone, Copy, Drop)]
+pub struct Worsts<'a> {
+    pub fitted: Fitted<'a>,
+    pub worsts: [(i128, usize); 2],
+    ghost held: { worsts ≡ worsts_of fitted.scene },
+    ghost sized: { (f : ℕ) → unsigned_abs (slice_index_or worsts f (pos 0, 0)).0 ≤ 2 ^ 78 },
+}
+
+// A scene with what every family that there may be loses, in grains.
+#[derive(Clone, Copy, Drop)]
+pub struct Losses<'a> {
+    pub fitted: Fitted<'a>,
+    pub losses: [u128; 2],
+    ghost held: { losses ≡ in_scene each_loss fitted.scene },
+    ghost sized: { (f : ℕ) → slice_index losses f ≤ 2 ^ 78 },
+}
 
 // Minus a result, or 0 if that is greater.
 pub fn loss_of(res: i128) -> u128
-    requires { unsigned_abs res ≤ 2 ^ 78 }
     ensures value { result ≡ loss_of_result res }
-    ensures size { result ≤ 2 ^ 78 }
-{
-    size_below_0(res)
-}
-
-// The same, told by the result's sign and size.
-fn size_below_0(res: i128) -> u128
-    requires { unsigned_abs res ≤ 2 ^ 78 }
-    ensures loss { res <ℤ pos 0 → result ≡ unsigned_abs res }
-    ensures no_loss { pos 0 ≤ℤ res → result ≡ 0 }
-    ensures size { result ≤ 2 ^ 78 }
+    ensures size { result ≤ unsigned_abs res }
 {
     if res < 0 { res.unsigned_abs() } else { 0 }
 }
 
-impl<'a> Scene<'a> {
-    fn family_row(&self, rows: &[i128], f: usize) -> [i128; 17]
-        requires fits { Fits self.now }
-        requires held { HoldsBaskets self.now rows.now }
-        ensures { Holds (family_result self.now.last (cards_of self.now) (cells_of self.now) f) (2 ^ 78) 17 (self.now.last + 1) result }
+impl<'a> BasketRows<'a> {
+    fn family_row(&self, f: usize) -> [i128; POINTS]
+        ensures { Holds (family_result self.now.fitted.scene.last (cards_of self.now.fitted.scene) (cells_of self.now.fitted.scene) f) (2 ^ 78) 17 (self.now.fitted.scene.last + 1) result }
     {
-        let mut row = [0; 17];
-        for p in 0..self.last + 1 {
-            row[p] = self.family_result(rows, f, p);
-        }
-        row
+        array::from_fn(|p| {
+            if p <= self.fitted.scene.last {
+                self.family_result(f, p)
+            } else {
+                0
+            }
+        })
     }
 
     // The worst of a family's row, with its first point.
-    pub fn family_worst(&self, rows: &[i128], f: usize) -> (i128, usize)
-        requires fits { Fits self.now }
-        requires held { HoldsBaskets self.now rows.now }
-        ensures value { result ≡ family_worst self.now.last (cards_of self.now) (cells_of self.now) f }
+    pub fn family_worst(&self, f: usize) -> (i128, usize)
+        ensures value { result ≡ family_worst self.now.fitted.scene.last (cards_of self.now.fitted.scene) (cells_of self.now.fitted.scene) f }
         ensures size { unsigned_abs result.0 ≤ 2 ^ 78 }
     {
-        let row = self.family_row(rows, f);
-        least_between(&row, 0, 0, self.last)
+        let row = self.family_row(f);
+        least_between(&row, 0, 0, self.fitted.scene.last)
     }
 
     // The worst of every family's row that there may be.
-    pub fn worsts(&self, rows: &[i128]) -> [(i128, usize); 2]
-        requires fits { Fits self.now }
-        requires held { HoldsBaskets self.now rows.now }
-        ensures value { result ≡ worsts_of self.now }
-        ensures size { (f : ℕ) → unsigned_abs (slice_index_or result f (pos 0, 0)).0 ≤ 2 ^ 78 }
+    pub fn worsts(&self) -> Worsts<'a>
+        ensures { result.fitted ≡ self.now.fitted }
     {
-        [self.family_worst(rows, 0), self.family_worst(rows, 1)]
+        Worsts {
+            fitted: self.fitted,
+            worsts: array::from_fn(|f| self.family_worst(f)),
+        }
     }
+}
 
+impl<'a> Worsts<'a> {
     // What every family that there may be loses.
-    pub(crate) fn losses(&self, worsts: &[(i128, usize)]) -> [u128; 2]
-        requires held { worsts.now ≡ worsts_of self.now }
-        requires size { (f : ℕ) → unsigned_abs (slice_index_or worsts.now f (pos 0, 0)).0 ≤ 2 ^ 78 }
-        ensures value { result ≡ in_scene each_loss self.now }
-        ensures size { (f : ℕ) → slice_index result f ≤ 2 ^ 78 }
+    pub fn losses(&self) -> Losses<'a>
+        ensures { result.fitted ≡ self.now.fitted }
     {
-        [loss_of(worsts[0].0), loss_of(worsts[1].0)]
+        Losses {
+            fitted: self.fitted,
+            losses: array::from_fn(|f| loss_of(self.worsts[f].0)),
+        }
     }
+}
 
+impl<'a> Losses<'a> {
     // The sum of the families' losses, in grains.
-    pub fn grains(&self, worsts: &[(i128, usize)]) -> u128
-        requires fits { Fits self.now }
-        requires held { worsts.now ≡ worsts_of self.now }
-        requires size { (f : ℕ) → unsigned_abs (slice_index_or worsts.now f (pos 0, 0)).0 ≤ 2 ^ 78 }
-        ensures value { result ≡ loss_in_grains self.now.last (cards_of self.now) (cells_of self.now) }
+    pub fn grains(&self) -> u128
+        ensures value { result ≡ loss_in_grains self.now.fitted.scene.last (cards_of self.now.fitted.scene) (cells_of self.now.fitted.scene) }
         ensures size { result ≤ 2 ^ 79 }
     {
-        self.grains_of_losses(&self.losses(worsts))
+        self.losses[..self.fitted.scene.families.len()].iter().sum()
     }
 
     // The margin in kopecks, rounded up once.
-    pub fn margin(&self, worsts: &[(i128, usize)]) -> u64
-        requires fits { Fits self.now }
-        requires held { worsts.now ≡ worsts_of self.now }
-        requires size { (f : ℕ) → unsigned_abs (slice_index_or worsts.now f (pos 0, 0)).0 ≤ 2 ^ 78 }
-        ensures { result ≡ margin_of self.now.last (cards_of self.now) (cells_of self.now) }
+    pub fn margin(&self) -> u64
+        ensures { result ≡ margin_of self.now.fitted.scene.last (cards_of self.now.fitted.scene) (cells_of self.now.fitted.scene) }
     {
-        self.margin_of_losses(&self.losses(worsts))
+        self.grains().div_ceil(80_000) as u64
     }
 
     // The family with the greatest loss, the lowest among equals.
-    pub fn costliest(&self, worsts: &[(i128, usize)]) -> usize
-        requires fits { Fits self.now }
-        requires held { worsts.now ≡ worsts_of self.now }
-        requires size { (f : ℕ) → unsigned_abs (slice_index_or worsts.now f (pos 0, 0)).0 ≤ 2 ^ 78 }
-        ensures { result ≡ costliest_of self.now.last (cards_of self.now) (cells_of self.now) }
+    pub fn costliest(&self) -> usize
+        ensures { result ≡ costliest_of self.now.fitted.scene.last (cards_of self.now.fitted.scene) (cells_of self.now.fitted.scene) }
     {
-        self.costliest_of_losses(&self.losses(worsts))
-    }
-
-    // The same of what each family loses.
-    pub(crate) fn grains_of_losses(&self, losses: &[u128]) -> u128
-        requires fits { Fits self.now }
-        requires held { losses.now ≡ in_scene each_loss self.now }
-        requires size { (f : ℕ) → slice_index losses.now f ≤ 2 ^ 78 }
-        ensures value { result ≡ loss_in_grains self.now.last (cards_of self.now) (cells_of self.now) }
-        ensures size { result ≤ 2 ^ 79 }
-    {
-        let mut sum = 0;
-        for f in 0..self.families.len() {
-            sum += losses[f];
-        }
-        sum
-    }
-
-    // The same of what each family loses.
-    pub(crate) fn margin_of_losses(&self, losses: &[u128]) -> u64
-        requires fits { Fits self.now }
-        requires held { losses.now ≡ in_scene each_loss self.now }
-        requires size { (f : ℕ) → slice_index losses.now f ≤ 2 ^ 78 }
-        ensures { result ≡ margin_of self.now.last (cards_of self.now) (cells_of self.now) }
-    {
-        ((self.grains_of_losses(losses) + 79_999) / 80_000) as u64
-    }
-
-    // The same of what each family loses.
-    pub(crate) fn costliest_of_losses(&self, losses: &[u128]) -> usize
-        requires fits { Fits self.now }
-        requires held { losses.now ≡ in_scene each_loss self.now }
-        ensures { result ≡ costliest_of self.now.last (cards_of self.now) (cells_of self.now) }
-    {
-        let first = FamilyLoss {
-            family: 0,
-            loss: losses[0],
-        };
-        let second = FamilyLoss {
-            family: 1,
-            loss: losses[1],
-        };
-        match least(&[first, second][0..self.families.len()]) {
-            Some((_, place)) => place,
-            None => 0,
-        }
+        let listed: [FamilyLoss; 2] = array::from_fn(|family| FamilyLoss {
+            family,
+            loss: self.losses[family],
+        });
+        least(&listed[..self.fitted.scene.families.len()]).map_or(0, |(_, place)| place)
     }
 }

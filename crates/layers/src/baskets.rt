@@ -1,27 +1,30 @@
 // A basket at a point.
-ghost use Rattle.std.specs.Prelude.{◌≡◌, ◌^◌, ◌<◌, ◌≤◌, true, false, length, pos, unsigned_abs};
-ghost use Rattle.margin.specs.Book.{in_basket, netted_basket, over_months};
+ghost use Rattle.std.specs.Prelude.{◌≡◌, ℕ, ◌^◌, ◌≤◌, ℤ, unsigned_abs};
+ghost use Rattle.margin.specs.Book.{netted_basket, over_months};
 ghost use Rattle.margin.specs.Layers.{netted_column, netted_basket_result, half_basket_result, basket_result};
 ghost use Rattle.layers.specs.Parts.{part_of};
-ghost use Rattle.layers.specs.Scenes.{Fits, cards_of, cells_of};
+ghost use Rattle.layers.specs.Scenes.{cards_of, cells_of};
 
+use crate::fitted::Fitted;
 pub use crate::naming::names;
 use crate::part::Part;
 use crate::pick::{least_of_three, lesser_of_0};
 use crate::scene::Scene;
 
 impl<'a> Scene<'a> {
-    fn in_basket(&self, b: usize, m: usize) -> bool
-        requires { m < length self.now.months.now }
-        ensures { result ≡ in_basket (cards_of self.now) b m }
+    pub fn is_netted_basket(&self, b: usize) -> bool
+        ensures { result ≡ netted_basket (cards_of self.now) b }
     {
-        names(self.months[m].basket, b)
+        self.baskets
+            .get(b)
+            .is_some_and(|basket| names(basket.rule, 1))
     }
+}
 
+impl<'a> Fitted<'a> {
     // What a month gives to a sum.
     fn part(&self, part: Part, m: usize, p: usize) -> i128
-        requires { Fits self.now }
-        ensures value { result ≡ part_of part (cells_of self.now) m p }
+        ensures value { result ≡ part_of part (cells_of self.now.scene) m p }
         ensures size { unsigned_abs result ≤ 2 ^ 72 }
     {
         match part {
@@ -31,77 +34,60 @@ impl<'a> Scene<'a> {
         }
     }
 
-    // The same, and 0 where the month is not one of the basket's.
-    fn share(&self, b: usize, part: Part, m: usize, p: usize) -> i128
-        requires fits { Fits self.now }
-        requires month { m < length self.now.months.now }
-        ensures value { result ≡ elim (in_basket (cards_of self.now) b m) [ true ↦ part_of part (cells_of self.now) m p | false ↦ pos 0 ] }
-        ensures size { unsigned_abs result ≤ 2 ^ 72 }
-    {
-        if self.in_basket(b, m) {
-            self.part(part, m, p)
-        } else {
-            0
-        }
-    }
-
-    // A sum over the months of a basket.
-    pub fn over_months(&self, b: usize, part: Part, p: usize) -> i128
-        requires { Fits self.now }
-        ensures value { result ≡ over_months (cards_of self.now) b (λ m. part_of part (cells_of self.now) m p) }
+    // A sum over the months of a basket of what each gives.
+    fn sum_over<F: Fn(usize) -> i128>(&self, b: usize, gives: F) -> i128
+        requires called { F.IsAlwaysCallable gives }
+        requires small { (m : ℕ) (r : ℤ) → F.post gives m r → unsigned_abs r ≤ 2 ^ 72 }
+        ensures value { (row : ℕ → ℤ) → ((m : ℕ) (r : ℤ) → F.post gives m r → r ≡ row m) → result ≡ over_months (cards_of self.now.scene) b row }
         ensures size { unsigned_abs result ≤ 2 ^ 75 }
     {
         let mut sum = 0;
-        for m in 0..self.months.len() {
-            sum += self.share(b, part, m, p);
+        for (m, month) in self.scene.months.iter().enumerate() {
+            if names(month.basket, b) {
+                sum += gives(m);
+            }
         }
         sum
     }
 
+    // A sum over the months of a basket of one part.
+    pub fn over_months(&self, b: usize, part: Part, p: usize) -> i128
+        ensures value { result ≡ over_months (cards_of self.now.scene) b (λ m. part_of part (cells_of self.now.scene) m p) }
+        ensures size { unsigned_abs result ≤ 2 ^ 75 }
+    {
+        self.sum_over(b, |m| self.part(part, m, p))
+    }
+
     // The least of a netted basket's volatility columns, each added up over its months, with the lowest column that has it.
     pub fn netted_column(&self, b: usize, p: usize) -> (i128, usize)
-        requires { Fits self.now }
-        ensures value { result ≡ netted_column (cards_of self.now) (cells_of self.now) b p }
+        ensures value { result ≡ netted_column (cards_of self.now.scene) (cells_of self.now.scene) b p }
         ensures size { unsigned_abs result.0 ≤ 2 ^ 75 }
     {
-        let first = self.over_months(b, Part::Column(0), p);
-        let second = self.over_months(b, Part::Column(1), p);
-        let third = self.over_months(b, Part::Column(2), p);
+        let first = self.sum_over(b, |m| self.cell(m, p, 0));
+        let second = self.sum_over(b, |m| self.cell(m, p, 1));
+        let third = self.sum_over(b, |m| self.cell(m, p, 2));
         least_of_three(first, second, third)
     }
 
     fn netted_basket_result(&self, b: usize, p: usize) -> i128
-        requires { Fits self.now }
-        ensures value { result ≡ netted_basket_result (cards_of self.now) (cells_of self.now) b p }
+        ensures value { result ≡ netted_basket_result (cards_of self.now.scene) (cells_of self.now.scene) b p }
         ensures size { unsigned_abs result ≤ 2 ^ 76 }
     {
-        self.netted_column(b, p).0 + self.over_months(b, Part::Curves, p)
+        self.netted_column(b, p).0 + self.sum_over(b, |m| self.curve_result(m, p))
     }
 
     fn half_basket_result(&self, b: usize, p: usize) -> i128
-        requires { Fits self.now }
-        ensures value { result ≡ half_basket_result (cards_of self.now) (cells_of self.now) b p }
+        ensures value { result ≡ half_basket_result (cards_of self.now.scene) (cells_of self.now.scene) b p }
         ensures size { unsigned_abs result ≤ 2 ^ 75 }
     {
-        self.over_months(b, Part::Losses, p)
-    }
-
-    pub fn is_netted_basket(&self, b: usize) -> bool
-        ensures { result ≡ netted_basket (cards_of self.now) b }
-    {
-        if b < self.baskets.len() {
-            names(self.baskets[b].rule, 1)
-        } else {
-            false
-        }
+        self.sum_over(b, |m| lesser_of_0(self.month_result(m, p)))
     }
 
     pub fn basket_result(&self, b: usize, p: usize) -> i128
-        requires { Fits self.now }
-        ensures value { result ≡ basket_result (cards_of self.now) (cells_of self.now) b p }
+        ensures value { result ≡ basket_result (cards_of self.now.scene) (cells_of self.now.scene) b p }
         ensures size { unsigned_abs result ≤ 2 ^ 76 }
     {
-        if self.is_netted_basket(b) {
+        if self.scene.is_netted_basket(b) {
             self.netted_basket_result(b, p)
         } else {
             self.half_basket_result(b, p)

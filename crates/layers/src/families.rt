@@ -1,19 +1,20 @@
 // A family at a point, and the worst of its row.
-ghost use Rattle.std.specs.Prelude.{◌≡◌, ◌^◌, ◌<◌, ◌≤◌, true, false, length, pos, unsigned_abs};
-ghost use Rattle.margin.specs.Book.{in_family, netted_family, window_of};
+ghost use Rattle.std.specs.Prelude.{◌≡◌, ◌^◌, ◌≤◌, unsigned_abs};
+ghost use Rattle.margin.specs.Book.{netted_family, window_of};
 ghost use Rattle.margin.specs.Layers.{window_start, window_end, worst_within, family_result};
-ghost use Rattle.layers.specs.Scenes.{Fits, HoldsBaskets, cards_of, cells_of, basket_part};
+ghost use Rattle.layers.specs.Scenes.{cards_of, cells_of, basket_part};
 
 use crate::naming::names;
 pub use crate::naming::number;
-use crate::pick::{least_between, lesser_of_0};
+use crate::pick::lesser_of_0;
+use crate::rows::BasketRows;
 use crate::scene::Scene;
 
 // The first point of the grid that lies within w points of p.
 fn first_within(w: usize, p: usize) -> usize
     ensures { result ≡ window_start w p }
 {
-    p - w.min(p)
+    p.saturating_sub(w)
 }
 
 // The last one. No grid has more than 17 points, and no sum wraps.
@@ -26,93 +27,62 @@ fn last_within(last: usize, w: usize, p: usize) -> usize
 }
 
 impl<'a> Scene<'a> {
-    fn in_family(&self, f: usize, b: usize) -> bool
-        requires { b < length self.now.baskets.now }
-        ensures { result ≡ in_family (cards_of self.now) f b }
-    {
-        names(self.baskets[b].family, f)
-    }
-
     pub fn is_netted_family(&self, f: usize) -> bool
         ensures { result ≡ netted_family (cards_of self.now) f }
     {
-        if f < self.families.len() {
-            names(self.families[f].rule, 1)
-        } else {
-            false
-        }
+        self.families
+            .get(f)
+            .is_some_and(|family| names(family.rule, 1))
     }
 
     // How many points a basket of the family may lie from the family's point.
     pub fn window(&self, f: usize) -> usize
         ensures { result ≡ window_of (cards_of self.now) f }
     {
-        if f < self.families.len() {
-            number(self.families[f].window)
-        } else {
-            0
-        }
+        self.families
+            .get(f)
+            .map_or(0, |family| number(family.window))
     }
+}
 
+impl<'a> BasketRows<'a> {
     // The worst of a basket within w points of p, with its first point.
-    pub fn worst_within(&self, rows: &[i128], w: usize, b: usize, p: usize) -> (i128, usize)
-        requires fits { Fits self.now }
-        requires held { HoldsBaskets self.now rows.now }
-        requires basket { b < 4 }
-        requires point { p ≤ self.now.last }
-        ensures value { result ≡ worst_within self.now.last (cards_of self.now) (cells_of self.now) w b p }
+    pub fn worst_within(&self, w: usize, b: usize, p: usize) -> (i128, usize)
+        requires { p ≤ self.now.fitted.scene.last }
+        ensures value { result ≡ worst_within self.now.fitted.scene.last (cards_of self.now.fitted.scene) (cells_of self.now.fitted.scene) w b p }
         ensures size { unsigned_abs result.0 ≤ 2 ^ 76 }
     {
-        least_between(
-            rows,
-            b * 17,
+        self.least_in(
+            b,
             first_within(w, p),
-            last_within(self.last, w, p),
+            last_within(self.fitted.scene.last, w, p),
         )
     }
 
     // What a basket gives to its family at a point.
-    fn basket_part(&self, rows: &[i128], f: usize, p: usize, b: usize) -> i128
-        requires fits { Fits self.now }
-        requires held { HoldsBaskets self.now rows.now }
-        requires basket { b < 4 }
-        requires point { p ≤ self.now.last }
-        ensures value { result ≡ basket_part self.now f p b }
+    fn basket_part(&self, f: usize, p: usize, b: usize) -> i128
+        requires { p ≤ self.now.fitted.scene.last }
+        ensures value { result ≡ basket_part self.now.fitted.scene f p b }
         ensures size { unsigned_abs result ≤ 2 ^ 76 }
     {
-        if self.is_netted_family(f) {
-            self.worst_within(rows, self.window(f), b, p).0
+        let scene = &self.fitted.scene;
+        if scene.is_netted_family(f) {
+            self.worst_within(scene.window(f), b, p).0
         } else {
-            lesser_of_0(rows[b * 17 + p])
+            lesser_of_0(self.result_at(b, p))
         }
     }
 
-    // The same, and 0 where the basket is not one of the family's.
-    fn basket_share(&self, rows: &[i128], f: usize, p: usize, b: usize) -> i128
-        requires fits { Fits self.now }
-        requires held { HoldsBaskets self.now rows.now }
-        requires basket { b < length self.now.baskets.now }
-        requires point { p ≤ self.now.last }
-        ensures value { result ≡ elim (in_family (cards_of self.now) f b) [ true ↦ basket_part self.now f p b | false ↦ pos 0 ] }
-        ensures size { unsigned_abs result ≤ 2 ^ 76 }
-    {
-        if self.in_family(f, b) {
-            self.basket_part(rows, f, p, b)
-        } else {
-            0
-        }
-    }
-
-    pub fn family_result(&self, rows: &[i128], f: usize, p: usize) -> i128
-        requires fits { Fits self.now }
-        requires held { HoldsBaskets self.now rows.now }
-        requires point { p ≤ self.now.last }
-        ensures value { result ≡ family_result self.now.last (cards_of self.now) (cells_of self.now) f p }
+    pub fn family_result(&self, f: usize, p: usize) -> i128
+        requires { p ≤ self.now.fitted.scene.last }
+        ensures value { result ≡ family_result self.now.fitted.scene.last (cards_of self.now.fitted.scene) (cells_of self.now.fitted.scene) f p }
         ensures size { unsigned_abs result ≤ 2 ^ 78 }
     {
         let mut sum = 0;
-        for b in 0..self.baskets.len() {
-            sum += self.basket_share(rows, f, p, b);
+        for (b, basket) in self.fitted.scene.baskets.iter().enumerate() {
+            if names(basket.family, f) {
+                sum += self.basket_part(f, p, b);
+            }
         }
         sum
     }

@@ -4,6 +4,7 @@
 pub mod amounts;
 pub mod baskets;
 pub mod families;
+pub mod fitted;
 pub mod month_cells;
 pub mod months;
 pub mod naming;

@@ -1,52 +1,59 @@
 // A month at a point.
-ghost use Rattle.std.specs.Prelude.{◌≡◌, ◌^◌, ◌≤◌, unsigned_abs};
+ghost use Rattle.std.specs.Prelude.{◌≡◌, ◌+◌, ◌^◌, ◌<◌, ◌≤◌, pos, unsigned_abs};
 ghost use Rattle.margin.specs.Layers.{volatility_result, rate_result, twist_result, curve_result, month_result};
-ghost use Rattle.layers.specs.Scenes.{Fits, cells_of};
+ghost use Rattle.margin.specs.Sums.{least3};
+ghost use Rattle.layers.specs.Scenes.{cells_of};
 
+use crate::fitted::Fitted;
 use crate::pick::{least_of_three, least_with_0};
-use crate::scene::Scene;
+use crate::scene::{RATE, TWIST};
 
-impl<'a> Scene<'a> {
+impl<'a> Fitted<'a> {
     // The least of the volatility columns, with the lowest column that has it.
     pub fn volatility_result(&self, m: usize, p: usize) -> (i128, usize)
-        requires { Fits self.now }
-        ensures value { result ≡ volatility_result (cells_of self.now) m p }
+        ensures value { result ≡ volatility_result (cells_of self.now.scene) m p }
         ensures size { unsigned_abs result.0 ≤ 2 ^ 70 }
     {
         least_of_three(self.cell(m, p, 0), self.cell(m, p, 1), self.cell(m, p, 2))
     }
 
-    // The least of 0 and the two rate columns; its place is 0 where neither is taken.
-    pub fn rate_result(&self, m: usize, p: usize) -> (i128, usize)
-        requires { Fits self.now }
-        ensures value { result ≡ rate_result (cells_of self.now) m p }
+    // The least of 0 and a column and the next.
+    fn least_of_pair(&self, m: usize, p: usize, first: usize) -> (i128, usize)
+        requires { first < 7 }
+        ensures value { result ≡ least3 (pos 0) (cells_of self.now.scene m p first) (cells_of self.now.scene m p (first + 1)) }
         ensures size { unsigned_abs result.0 ≤ 2 ^ 70 }
         ensures place { result.1 ≤ 2 }
     {
-        least_with_0(self.cell(m, p, 3), self.cell(m, p, 4))
+        least_with_0(self.cell(m, p, first), self.cell(m, p, first + 1))
+    }
+
+    // The least of 0 and the two rate columns; its place is 0 where neither is taken.
+    pub fn rate_result(&self, m: usize, p: usize) -> (i128, usize)
+        ensures value { result ≡ rate_result (cells_of self.now.scene) m p }
+        ensures size { unsigned_abs result.0 ≤ 2 ^ 70 }
+        ensures place { result.1 ≤ 2 }
+    {
+        self.least_of_pair(m, p, RATE)
     }
 
     // The least of 0 and the two twist columns.
     pub fn twist_result(&self, m: usize, p: usize) -> (i128, usize)
-        requires { Fits self.now }
-        ensures value { result ≡ twist_result (cells_of self.now) m p }
+        ensures value { result ≡ twist_result (cells_of self.now.scene) m p }
         ensures size { unsigned_abs result.0 ≤ 2 ^ 70 }
         ensures place { result.1 ≤ 2 }
     {
-        least_with_0(self.cell(m, p, 5), self.cell(m, p, 6))
+        self.least_of_pair(m, p, TWIST)
     }
 
     pub fn curve_result(&self, m: usize, p: usize) -> i128
-        requires { Fits self.now }
-        ensures value { result ≡ curve_result (cells_of self.now) m p }
+        ensures value { result ≡ curve_result (cells_of self.now.scene) m p }
         ensures size { unsigned_abs result ≤ 2 ^ 71 }
     {
         self.rate_result(m, p).0 + self.twist_result(m, p).0
     }
 
     pub fn month_result(&self, m: usize, p: usize) -> i128
-        requires { Fits self.now }
-        ensures value { result ≡ month_result (cells_of self.now) m p }
+        ensures value { result ≡ month_result (cells_of self.now.scene) m p }
         ensures size { unsigned_abs result ≤ 2 ^ 72 }
     {
         self.volatility_result(m, p).0 + self.curve_result(m, p)

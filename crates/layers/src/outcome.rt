@@ -7,9 +7,10 @@ ghost use Rattle.deck.specs.Decks.{deck_cards};
 ghost use Rattle.layers.specs.Families.{each_worst, each_loss};
 ghost use Rattle.layers.specs.Outcomes.{on_cells};
 ghost use Rattle.layers.specs.Rows.{ListsAll};
-ghost use Rattle.layers.specs.Scenes.{Fits, NamesBaskets, in_scene, cards_of};
+ghost use Rattle.layers.specs.Scenes.{NamesBaskets, in_scene, cards_of};
 ghost use Rattle.layers.specs.Tables.{last_point};
 
+use crate::fitted::Fitted;
 use crate::month_cells::MonthCells;
 use crate::scene::Scene;
 use deck::deck::Deck;
@@ -42,43 +43,40 @@ pub fn worked_out<'a>(deck: &'a Deck, cells: &'a MonthCells, half: Half) -> Outc
     view(deck, cells, half).outcome()
 }
 
-impl<'a> Scene<'a> {
+impl<'a> Fitted<'a> {
     // What the layers make of a scene.
     pub fn outcome(&self) -> Outcome
-        requires fits { Fits self.now }
-        requires named { NamesBaskets self.now }
-        ensures amount { result.amount ≡ in_scene margin_of self.now }
-        ensures losses { result.losses ≡ in_scene each_loss self.now }
-        ensures worsts { result.worsts ≡ in_scene each_worst self.now }
-        ensures costliest { result.costliest ≡ in_scene costliest_of self.now }
-        ensures families { ListsAll None (in_scene family_choice self.now) result.families }
-        ensures baskets { ListsAll None (in_scene basket_choice self.now) result.baskets }
-        ensures months { ListsAll None (in_scene month_choice self.now) result.months }
+        ensures amount { result.amount ≡ in_scene margin_of self.now.scene }
+        ensures losses { result.losses ≡ in_scene each_loss self.now.scene }
+        ensures worsts { result.worsts ≡ in_scene each_worst self.now.scene }
+        ensures costliest { result.costliest ≡ in_scene costliest_of self.now.scene }
+        ensures families { ListsAll None (in_scene family_choice self.now.scene) result.families }
+        ensures baskets { ListsAll None (in_scene basket_choice self.now.scene) result.baskets }
+        ensures months { ListsAll None (in_scene month_choice self.now.scene) result.months }
     {
         let rows = self.basket_rows();
-        let worsts = self.worsts(&rows);
-        let losses = self.losses(&worsts);
+        let worsts = rows.worsts();
+        let losses = worsts.losses();
         Outcome {
-            amount: self.margin_of_losses(&losses),
-            losses,
-            worsts,
-            costliest: self.costliest_of_losses(&losses),
-            families: self.chosen_families(&rows),
-            baskets: self.chosen_baskets(&rows),
-            months: self.chosen_months(&rows),
+            amount: losses.margin(),
+            losses: losses.losses,
+            worsts: worsts.worsts,
+            costliest: losses.costliest(),
+            families: rows.chosen_families(),
+            baskets: rows.chosen_baskets(),
+            months: rows.chosen_months(),
         }
     }
 }
 
 // The layers' view of judged cards and their cells.
-fn view<'a>(deck: &'a Deck, cells: &'a MonthCells, half: Half) -> Scene<'a>
-    ensures cards { cards_of result ≡ deck_cards deck.now }
-    ensures table { result.cells.now ≡ cells.now.cells }
-    ensures last { result.last ≡ last_point half }
-    ensures fits { Fits result }
-    ensures named { NamesBaskets result }
+fn view<'a>(deck: &'a Deck, cells: &'a MonthCells, half: Half) -> Fitted<'a>
+    ensures cards { cards_of result.scene ≡ deck_cards deck.now }
+    ensures table { result.scene.cells.now ≡ cells.now.cells }
+    ensures last { result.scene.last ≡ last_point half }
+    ensures named { NamesBaskets result.scene }
 {
-    Scene {
+    let scene = Scene {
         families: deck.families.as_slice(),
         baskets: deck.baskets.as_slice(),
         months: deck.months.as_slice(),
@@ -86,5 +84,6 @@ fn view<'a>(deck: &'a Deck, cells: &'a MonthCells, half: Half) -> Scene<'a>
         futures: deck.futures,
         cells: &cells.cells,
         last: 2 * half.size(),
-    }
+    };
+    Fitted { scene }
 }

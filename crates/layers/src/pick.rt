@@ -11,10 +11,7 @@ pub fn least_of_three(a: i128, b: i128, c: i128) -> (i128, usize)
     ensures size { (n : ℕ) → unsigned_abs a ≤ n → unsigned_abs b ≤ n → unsigned_abs c ≤ n → unsigned_abs result.0 ≤ n }
     ensures place { result.1 ≤ 2 }
 {
-    match least(&[a, b, c]) {
-        Some(found) => found,
-        None => (a, 0),
-    }
+    least(&[a, b, c]).unwrap_or((a, 0))
 }
 
 // The least of 0 and two results; its place is 0 where neither is below 0, and else 1 or 2.
@@ -31,10 +28,8 @@ pub fn least_between(results: &[i128], base: usize, start: usize, end: usize) ->
     ensures value { result ≡ least_of int_le (λ q. get_or results.now (base + q) (pos 0)) start (end - start) }
     ensures size { (n : ℕ) → ((i : ℕ) → unsigned_abs (slice_index_or results.now i (pos 0)) ≤ n) → unsigned_abs result.0 ≤ n }
 {
-    match least(&results[base + start..base + end + 1]) {
-        Some((result, place)) => (result, start + place),
-        None => (0, start),
-    }
+    let (result, place) = least(&results[base + start..base + end + 1]).unwrap_or((0, 0));
+    (result, start + place)
 }
 
 // The lesser of 0 and a result.
@@ -42,5 +37,5 @@ pub fn lesser_of_0(res: i128) -> i128
     ensures value { result ≡ int_min (pos 0) res }
     ensures size { unsigned_abs result ≤ unsigned_abs res }
 {
-    if res < 0 { res } else { 0 }
+    res.min(0)
 }

@@ -1,9 +1,15 @@
 // What the layers are worked out from: the cards, and the months' cells in a table.
-ghost use Rattle.std.specs.Prelude.{◌≡◌, ◌^◌, ◌<◌, ◌≤◌, unsigned_abs};
-ghost use Rattle.layers.specs.Scenes.{Fits, cells_of};
-ghost use Rattle.layers.specs.Tables.{place_of};
-
 use terms::cards::{Basket, Family, Line, Month};
+
+// The most points of a grid, and the columns of a month.
+pub(crate) const POINTS: usize = 17;
+
+pub(crate) const COLUMNS: usize = 7;
+
+// The first of a month's two rate columns, and of its two twist columns.
+pub(crate) const RATE: usize = 3;
+
+pub(crate) const TWIST: usize = 5;
 
 #[derive(Clone, Copy, Drop)]
 pub struct Scene<'a> {
@@ -16,28 +22,4 @@ pub struct Scene<'a> {
     pub cells: &'a [i128],
     // the grid's last point
     pub last: usize,
-}
-
-// Where a cell stands in the table.
-fn place(m: usize, p: usize, k: usize) -> usize
-    requires { (m < 8) × ((p < 17) × (k < 7)) }
-    ensures value { result ≡ place_of m p k }
-    ensures inside { result < 952 }
-{
-    (m * 17 + p) * 7 + k
-}
-
-impl<'a> Scene<'a> {
-    // A month's cell; 0 outside the grid.
-    pub fn cell(&self, m: usize, p: usize, k: usize) -> i128
-        requires { Fits self.now }
-        ensures value { result ≡ cells_of self.now m p k }
-        ensures size { unsigned_abs result ≤ 2 ^ 70 }
-    {
-        if m < self.months.len() && p <= self.last && k < 7 {
-            self.cells[place(m, p, k)]
-        } else {
-            0
-        }
-    }
 }

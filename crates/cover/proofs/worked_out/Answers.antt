@@ -1,17 +1,17 @@
-use Rattle.std.proofs.Common.{ℕ, ◌<◌, ◌≤◌, [], ◌∷◌, length, sym, subst, ◌∙◌, le_trans}
-use Rattle.margin.specs.Book.{Cards, named, month}
+use Rattle.std.proofs.Common.{◌≤◌, [], ◌∷◌, length, sym, subst, ◌∙◌}
+use Rattle.margin.specs.Book.{Cards}
 use Rattle.margin.specs.HandedOut.{family_choice, basket_choice, month_choice}
 use Rattle.margin.specs.Layers.{family_worst, margin_of, costliest}
 use Rattle.deck.specs.Decks.{deck_cards}
-use Rattle.deck.proofs.Kept.{few_families, few_baskets, few_months, basket_of_month}
+use Rattle.deck.proofs.Kept.{few_families, few_baskets, few_months}
 use Rattle.layers.specs.Families.{each_loss}
 use Rattle.layers.proofs.Tables.{Views, seen}
 use Rattle.cover.proofs.worked_out.Goals as goal
 
-pub outcome-requires : goal.outcome-requires
-outcome-requires c =
+pub invariant_of-outcome : goal.invariant_of-outcome
+invariant_of-outcome c =
     let deck = c.args.deck.now in
-    let is = c.view.ensures in
+    let is = c.view-scene.ensures in
     let cards = sym is.cards in
     record {
       fits = record {
@@ -22,14 +22,13 @@ outcome-requires c =
         room = rw is.table c.requires.room;
         bounded = rw is.table c.requires.bounded;
       };
-      named = subst (λ (cs : Cards). (m : ℕ) → m < length cs.months → named (month cs m).basket < 4) cards (λ m h. le_trans (basket_of_month deck m h) (few_baskets deck));
     }
 
 pub returns : goal.returns
 returns c =
-    let is = c.view.ensures in
+    let is = c.view-scene.ensures in
     let found = c.outcome.ensures in
-    let views : Views c.view.result c.args.last (deck_cards c.args.deck.now) c.args.cells.now = record { cards_are = is.cards; table_is = is.table; last_is = is.last } in
+    let views : Views c.view-scene.result c.args.last (deck_cards c.args.deck.now) c.args.cells.now = record { cards_are = is.cards; table_is = is.table; last_is = is.last } in
     record {
       amount = found.amount ∙ seen views margin_of;
       losses = found.losses ∙ seen views each_loss;

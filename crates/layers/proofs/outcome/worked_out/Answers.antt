@@ -11,7 +11,7 @@ pub returns : goal.returns
 returns c =
     let is = c.view.ensures in
     let found = c.outcome.ensures in
-    let views : Views c.view.result (last_point c.args.half) (deck_cards c.args.deck.now) c.args.cells.now.cells = record { cards_are = is.cards; table_is = is.table; last_is = is.last } in
+    let views : Views c.view.result.scene (last_point c.args.half) (deck_cards c.args.deck.now) c.args.cells.now.cells = record { cards_are = is.cards; table_is = is.table; last_is = is.last } in
     record {
       amount = found.amount ∙ seen views margin_of;
       losses = found.losses ∙ seen views each_loss;

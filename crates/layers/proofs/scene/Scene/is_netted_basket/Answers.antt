@@ -1,18 +1,14 @@
-use Rattle.std.proofs.Common.{get_or, pos, sym, ap, arith, w64, SFits, rules}
-use lib.ListN.{get_or-eq_default}
+use Rattle.std.proofs.Common.{get_or, pos, refl, w64, SFits, to_z, of_z, rules}
 use Rattle.std.proofs.lemmas.Int.{to_z-of_z}
 use Rattle.terms.specs.declared.cards.Basket.{Basket}
 use Rattle.margin.specs.Book.{names, netted_basket}
+use Rattle.layers.proofs.Names.{looked_up}
 use Rattle.layers.proofs.scene.Scene.is_netted_basket.Goals as goal
 
-pub returns-then-b-self : goal.returns-then-b-self
-unfolding netted_basket
-returns-then-b-self c =
-    let fits : SFits w64 (get_or c.args.self.now.baskets.now c.args.b (record { family = pos 0; rule = pos 0 })).rule = search rules in
-    simp to_z-of_z at c.names.ensures
-
-pub returns-else-b-self : goal.returns-else-b-self
+pub returns : goal.returns
 unfolding netted_basket names
-returns-else-b-self c =
+returns c =
+    let items = c.args.self.now.baskets.now in
     let none : Basket = record { family = pos 0; rule = pos 0 } in
-    sym (ap (λ (b : Basket). names b.rule 1) (get_or-eq_default c.args.self.now.baskets.now none (omega arith)))
+    let fits : SFits w64 (get_or items c.args.b none).rule = search rules in
+    simp to_z-of_z at (looked_up items c.args.b none (λ (x : Basket). names (to_z w64 (of_z w64 x.rule)) 1) c.get.result _ _ c.is_some_and.result refl c.get.ensures.lookup.3 (λ x p. search rules) c.is_some_and.ensures)

@@ -1,18 +1,14 @@
-use Rattle.std.proofs.Common.{get_or, pos, sym, ap, arith, w64, SFits, rules}
-use lib.ListN.{get_or-eq_default}
+use Rattle.std.proofs.Common.{get_or, pos, refl, w64, SFits, to_z, of_z, rules}
 use Rattle.std.proofs.lemmas.Int.{to_z-of_z}
 use Rattle.terms.specs.declared.cards.Family.{Family}
 use Rattle.margin.specs.Book.{names, netted_family}
+use Rattle.layers.proofs.Names.{looked_up}
 use Rattle.layers.proofs.scene.Scene.is_netted_family.Goals as goal
 
-pub returns-then-f-self : goal.returns-then-f-self
-unfolding netted_family
-returns-then-f-self c =
-    let fits : SFits w64 (get_or c.args.self.now.families.now c.args.f (record { rule = pos 0; window = pos 0 })).rule = search rules in
-    simp to_z-of_z at c.names.ensures
-
-pub returns-else-f-self : goal.returns-else-f-self
+pub returns : goal.returns
 unfolding netted_family names
-returns-else-f-self c =
+returns c =
+    let items = c.args.self.now.families.now in
     let none : Family = record { rule = pos 0; window = pos 0 } in
-    sym (ap (λ (f : Family). names f.rule 1) (get_or-eq_default c.args.self.now.families.now none (omega arith)))
+    let fits : SFits w64 (get_or items c.args.f none).rule = search rules in
+    simp to_z-of_z at (looked_up items c.args.f none (λ (x : Family). names (to_z w64 (of_z w64 x.rule)) 1) c.get.result _ _ c.is_some_and.result refl c.get.ensures.lookup.3 (λ x p. search rules) c.is_some_and.ensures)

@@ -1,18 +1,14 @@
-use Rattle.std.proofs.Common.{get_or, pos, sym, ap, arith, w64, SFits, rules}
-use lib.ListN.{get_or-eq_default}
+use Rattle.std.proofs.Common.{get_or, pos, refl, w64, SFits, to_z, of_z, rules}
 use Rattle.std.proofs.lemmas.Int.{to_z-of_z}
 use Rattle.terms.specs.declared.cards.Family.{Family}
 use Rattle.margin.specs.Book.{named, window_of}
+use Rattle.layers.proofs.Names.{looked_up}
 use Rattle.layers.proofs.scene.Scene.window.Goals as goal
 
-pub returns-then-f-self : goal.returns-then-f-self
-unfolding window_of
-returns-then-f-self c =
-    let fits : SFits w64 (get_or c.args.self.now.families.now c.args.f (record { rule = pos 0; window = pos 0 })).window = search rules in
-    simp to_z-of_z at c.number.ensures
-
-pub returns-else-f-self : goal.returns-else-f-self
+pub returns : goal.returns
 unfolding window_of named
-returns-else-f-self c =
+returns c =
+    let items = c.args.self.now.families.now in
     let none : Family = record { rule = pos 0; window = pos 0 } in
-    sym (ap (λ (f : Family). named f.window) (get_or-eq_default c.args.self.now.families.now none (omega arith)))
+    let fits : SFits w64 (get_or items c.args.f none).window = search rules in
+    simp to_z-of_z at (looked_up items c.args.f none (λ (x : Family). named (to_z w64 (of_z w64 x.window))) c.get.result _ _ c.map_or.result refl c.get.ensures.lookup.3 (λ x p. search rules) c.map_or.ensures)

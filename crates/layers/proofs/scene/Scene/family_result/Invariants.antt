@@ -1,8 +1,0 @@
-use Rattle.std.proofs.Common.{◌≡◌, ◌*◌, ◌^◌, ◌≤◌, nat_abs}
-use Rattle.margin.specs.Book.{in_family}
-use Rattle.margin.specs.Sums.{total}
-use Rattle.layers.specs.Scenes.{cards_of, basket_part}
-use Rattle.layers.proofs.scene.Scene.family_result.Given as goal
-
-abbrev pub invariant-loop-b : goal.invariant-loop-b
-invariant-loop-b l = (l.sum ≡ total l.b (in_family (cards_of l.self) l.f) (λ b. basket_part l.self l.f l.p b)) × (nat_abs l.sum ≤ l.b * 2 ^ 76)

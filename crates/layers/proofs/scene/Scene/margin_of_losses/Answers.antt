@@ -1,7 +1,0 @@
-use Rattle.std.proofs.Common.{ℕ, ◌+◌, ◌/◌, ap}
-use Rattle.margin.specs.Layers.{margin_of}
-use Rattle.layers.proofs.scene.Scene.margin_of_losses.Goals as goal
-
-pub returns : goal.returns
-unfolding margin_of
-returns c = ap (λ (n : ℕ). (n + 79999) / 80000) c.grains_of_losses.ensures.value
