@@ -1,5 +1,5 @@
 -- What holds of cards that no check refuses.
-use Rattle.std.proofs.Common.{◌≡◌, ℕ, ◌+◌, ◌<◌, ◌≤◌, true, ◌||◌, leb, List, [], ◌∷◌, length, get_or, pos, negsuc, Some, None, Ok, Err, Option, Result, ℤ, ◌&&◌, refl, ap, ap₂, subst, ⊎_elim, arith}
+use Rattle.std.proofs.Common.{◌≡◌, ℕ, ◌+◌, ◌<◌, ◌≤◌, true, ◌||◌, leb, List, [], ◌∷◌, length, get_or, pos, negsuc, Some, None, Ok, Err, Option, Result, ℤ, ◌&&◌, refl, ap₂, subst, ⊎_elim, arith}
 use lib.Signed.{le_z}
 use Rattle.std.specs.Ordering.{int_eq}
 use Rattle.std.proofs.lemmas.Bool.Decides.{same_from_decides, Decides-int_eq}
@@ -31,15 +31,6 @@ pub along_none : (here : Option ℕ) (count : ℕ) (later : Option ℕ) → alon
 along_none (Some k) count later e = absurd (some_is_none k e)
 along_none None count None e = (refl, refl)
 along_none None count (Some k) e = absurd (some_is_none (count + k) e)
-
--- places counted through all lists, each from its list's start
-pub counted_through : (a b c d e : Option ℕ) (i j k l : ℕ) → along (along (along (along a i b) (i + j) c) (i + j + k) d) (i + j + k + l) e ≡ along a i (along b j (along c k (along d l e)))
-counted_through (Some n) b c d e i j k l = refl
-counted_through None (Some n) c d e i j k l = refl
-counted_through None None (Some n) d e i j k l = ap Some (omega arith)
-counted_through None None None (Some n) e i j k l = ap Some (omega arith)
-counted_through None None None None (Some n) i j k l = ap Some (omega arith)
-counted_through None None None None None i j k l = refl
 
 le_itself : (z : ℤ) → le_z z z ≡ true
 le_itself (pos n) = le-leb n n (omega arith)

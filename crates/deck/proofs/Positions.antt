@@ -32,8 +32,8 @@ module _ {X : Type 0} (test : X → Bool) where
   alike_from i (x ∷ xs) = step (λ _. test) i x xs _ (alike_from (i + 1) xs)
 
   -- a test that is the same at every place
-  pub failing_anywhere : (xs : List X) → position (λ x. not (test x)) xs ≡ failing (λ _. test) 0 xs
-  failing_anywhere xs = position_from-zero (λ x. not (test x)) xs ∙ alike_from 0 xs
+  pub failing_anywhere : (xs : List X) (found : Option ℕ) → found ≡ position (λ x. not (test x)) xs → found ≡ failing (λ _. test) 0 xs
+  failing_anywhere xs found e = e ∙ position_from-zero (λ x. not (test x)) xs ∙ alike_from 0 xs
 
   -- whether all that stands before a place passes
   reached : (i j : ℕ) (xs : List X) → j ≤ i → elim (failing (λ _. test) i xs) [ None ↦ true | Some earliest ↦ leb j earliest ] ≡ true
