@@ -30,10 +30,8 @@ fn is_first(line: i64, all: &[Held], place: usize) -> bool
 fn holds(lines: usize, all: &[Held], place: usize, held: &Held) -> bool
     ensures { result ≡ held_fits lines all.now place held.now }
 {
-    names(lines, held.line)
-        && between(held.net, -10_000, 10_000)
-        && between(held.price, 0, 10_000_000)
-        && is_first(held.line, all, place)
+    let named = names(lines, held.line) && is_first(held.line, all, place);
+    named && between(held.net, -10_000, 10_000) && between(held.price, 0, 10_000_000)
 }
 
 // The place of the first family that does not fit.
