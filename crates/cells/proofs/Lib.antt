@@ -1,4 +1,5 @@
 pub mod Charged
+pub mod Made
 pub mod Sizes
 pub mod Times
 pub mod Uncounted

@@ -2,5 +2,4 @@ pub mod Books
 pub mod Countings
 pub mod Empty
 pub mod Grids
-pub mod Parts
 pub mod Shares

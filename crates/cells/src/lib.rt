@@ -18,8 +18,11 @@ mod counting;
 pub mod desk;
 mod lines;
 pub mod open;
+mod open_order;
 mod orders;
-mod part;
+mod products;
+mod quote;
+mod reaches;
 mod results;
 
 use crate::book::Book;

@@ -1,53 +1,37 @@
-// Sums over the open orders of a line.
-ghost use Rattle.std.specs.Prelude.{◌≡◌, ◌*◌, ◌≤◌, true, false, pos, ◌==◌, unsigned_abs};
+// The open orders of a book, one by one and added up.
+ghost use Rattle.std.specs.Prelude.{◌≡◌, ℕ, ◌*◌, ◌≤◌, length, ℤ, IfSome, is_none, true, unsigned_abs};
 ghost use Rattle.margin.specs.Book.{over_orders, order as order_of};
+ghost use Rattle.margin.specs.declared.book.Open.{Open as TheOpen};
 ghost use Rattle.cells.specs.Books.{book_of};
-ghost use Rattle.cells.specs.Parts.{part_of, Priced, most_of};
+ghost use Rattle.cells.specs.declared.open_order.OpenOrder.{OpenOrder as TheOrder};
 
 use crate::book::Book;
-use crate::part::Part;
-use crate::results::order_result;
-use margin::book::Open;
+use crate::open_order::OpenOrder;
 
-// What one order adds.
-fn part(order: Open, what: Part) -> i64
-    requires left { unsigned_abs order.left ≤ 10000 }
-    requires limit { unsigned_abs order.limit ≤ 10000000 }
-    requires priced { Priced what }
-    ensures value { result ≡ part_of what order }
-    ensures size { unsigned_abs result ≤ most_of what }
-{
-    match what {
-        Part::Loss { price, column } => 0i64.min(order_result(order, price, column)),
-        Part::Buy => 0i64.max(order.left),
-        Part::Sell => 0i64.max(-order.left),
+impl<'a> Book<'a> {
+    // The i-th order, if there are so many.
+    pub(crate) fn order(&self, i: usize) -> Option<OpenOrder>
+        ensures some { IfSome result (λ o. o.open ≡ order_of (book_of self.now) i) }
+        ensures none { is_none result ≡ true → length self.now.orders.now ≤ i }
+    {
+        let open = *self.orders.get(i)?;
+        Some(OpenOrder { open })
     }
-}
 
-// What one order adds, if it is an order of the line.
-fn share(order: Open, line: usize, what: Part) -> i64
-    requires left { unsigned_abs order.left ≤ 10000 }
-    requires limit { unsigned_abs order.limit ≤ 10000000 }
-    requires priced { Priced what }
-    ensures value { result ≡ elim (order.line == line) [ true ↦ part_of what order | false ↦ pos 0 ] }
-    ensures size { unsigned_abs result ≤ most_of what }
-{
-    if order.line == line {
-        part(order, what)
-    } else {
-        0
+    // What the open orders of a line add up to, each of which adds a part.
+    pub(crate) fn over_orders<F: Fn(OpenOrder) -> i64>(&self, line: usize, part: F) -> i64
+        requires callable { F.IsAlwaysCallable part }
+        requires small { (o : TheOrder) (r : ℤ) → F.post part o r → unsigned_abs r ≤ 28000000000000000 }
+        ensures value { (p : TheOpen → ℤ) → ((o : TheOrder) (r : ℤ) → F.post part o r → r ≡ p o.open) → result ≡ over_orders (book_of self.now) line (λ i. p (order_of (book_of self.now) i)) }
+        ensures size { (most : ℕ) → ((o : TheOrder) (r : ℤ) → F.post part o r → unsigned_abs r ≤ most) → unsigned_abs result ≤ 32 * most }
+    {
+        let mut sum: i64 = 0;
+        for open in self.orders {
+            let order = OpenOrder { open: *open };
+            if order.open.line == line {
+                sum += part(order);
+            }
+        }
+        sum
     }
-}
-
-// A sum over the open orders of a line.
-pub(crate) fn over_orders(book: Book, line: usize, what: Part) -> i64
-    requires { Priced what }
-    ensures value { result ≡ over_orders (book_of book.entry) line (λ i. part_of what (order_of (book_of book.entry) i)) }
-    ensures size { unsigned_abs result ≤ 32 * most_of what }
-{
-    let mut sum: i64 = 0;
-    for order in book.orders {
-        sum += share(*order, line, what);
-    }
-    sum
 }

@@ -1,9 +1,8 @@
 -- Lists that hold the choices of the world handed out are that world.
-use Rattle.std.proofs.Common.{◌≡◌, ℕ, List, ℤ, None, sym, ap, ◌∙◌, ap₂}
+use Rattle.std.proofs.Common.{◌≡◌, ℕ, ℤ, None, sym, ap, ◌∙◌, ap₂}
 use mathlib.Core.Path.{fun_ext}
 use Rattle.banks.specs.Meanings.{Meaning}
 use Rattle.margin.specs.Book.{Cards, Book, named, line, month, order}
-use Rattle.margin.specs.Cells.{cells}
 use Rattle.margin.specs.HandedOut.{family_choice, basket_choice, month_choice, choices, order_counted_at, counted_of, handed_out}
 use Rattle.margin.specs.Worlds.{nowhere, listed_world}
 use Rattle.margin.specs.declared.choice.World.{World}
@@ -14,17 +13,16 @@ use Rattle.deck.specs.declared.deck.Deck.{Deck}
 use Rattle.deck.proofs.Kept.{basket_of_month, month_of_line}
 use Rattle.layers.specs.Rows.{ListsAll}
 use Rattle.layers.specs.Tables.{table_cells}
+use Rattle.layers.specs.Outcomes.{on_cells}
+use Rattle.layers.specs.declared.month_cells.MonthCells.{MonthCells}
+use Rattle.terms.specs.declared.half.Half.{Half}
 use Rattle.cells.specs.Countings.{counted_from}
 use Rattle.cells.specs.Grids.{last_of}
 use Rattle.cover.specs.Margins.{cells_for, world_for}
 
--- what the layers find in a list of the book's cells on the bank's grid, they find in the cells themselves
-pub record HoldsBook (bank : Meaning) (cards : Cards) (book : Book) (last : ℕ) (table : List ℤ) : Type 0 where
-  pub last_is : last ≡ last_of bank
-  pub cells_are : table_cells last cards table ≡ cells last bank.price cards book
-
-pub found_for : {bank : Meaning} {cards : Cards} {book : Book} {last : ℕ} {table : List ℤ} {X : Type 0} → HoldsBook bank cards book last table → (F : ℕ → (ℕ → ℕ → ℕ → ℤ) → X) → F last (table_cells last cards table) ≡ F (last_of bank) (cells_for bank cards book)
-found_for {bank} {cards} {book} {last} {table} held F = ap (F last) held.cells_are ∙ ap (λ (l : ℕ). F l (cells l bank.price cards book)) held.last_is
+-- what the layers find in a book's cells on its bank's grid
+pub found_for : {X : Type 0} (bank : Meaning) (deck : Deck) (book : Book) (half : Half) (cells : MonthCells) → half ≡ bank.half → table_cells (last_of bank) (deck_cards deck) cells.cells ≡ cells_for bank (deck_cards deck) book → (layer : ℕ → Cards → (ℕ → ℕ → ℕ → ℤ) → X) → on_cells layer half deck cells ≡ layer (last_of bank) (deck_cards deck) (cells_for bank (deck_cards deck) book)
+found_for bank deck book half cells same held layer = ap (λ (h : Half). on_cells layer h deck cells) same ∙ ap (layer (last_of bank) (deck_cards deck)) held
 
 -- the choices of a world, in lists
 module _ (bank : Meaning) (deck : Deck) (book : Book) where

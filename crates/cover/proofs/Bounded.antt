@@ -1,7 +1,8 @@
 -- The sizes of small positions and orders, at every place.
-use Rattle.std.proofs.Common.{◌≡◌, ℕ, ◌<◌, ◌≤◌, true, not, ◌&&◌, leb, List, length, get_or, pos, negsuc, nat_abs, is_some, Some, None, Option, sym, refl, subst, ⊎_elim, zero-le}
+use Rattle.std.proofs.Common.{◌≡◌, ℕ, suc, ◌<◌, ◌≤◌, Bool, true, false, not, ◌&&◌, leb, List, [], ◌∷◌, length, get_or, pos, negsuc, nat_abs, is_some, Some, None, Option, sym, refl, subst, ⊎_elim, zero-le}
 use Rattle.std.proofs.lemmas.List.{get_or_past}
 use Rattle.std.proofs.lemmas.Bool.{and_parts, leb-true, cases_lt, false≢true}
+use Rattle.std.specs.List.{list_all}
 use Rattle.terms.specs.Cards.{within}
 use Rattle.terms.specs.Judging.{failing}
 use Rattle.terms.proofs.Places.{none_fails}
@@ -10,6 +11,16 @@ use Rattle.margin.specs.declared.book.Open.{Open}
 use Rattle.margin.specs.declared.book.Position.{Position}
 use Rattle.cells.specs.Empty.{no_position, no_order}
 use Rattle.cover.specs.Small.{small_position, small_order, small_book}
+
+-- whether each item passes is whether none fails
+pub none_failing : {X : Type 0} (test : X → Bool) (i : ℕ) (xs : List X) → list_all test xs ≡ not (is_some (failing (λ _. test) i xs))
+unfolding failing
+none_failing test i [] = refl
+none_failing test i (x ∷ xs) = go (none_failing test (suc i) xs) (test x)
+  where
+    go : list_all test xs ≡ not (is_some (failing (λ _. test) (suc i) xs)) → (b : Bool) → (b && list_all test xs) ≡ not (is_some (elim b as (λ _. Option ℕ) [ true ↦ failing (λ _. test) (suc i) xs | false ↦ Some i ]))
+    go later true = later
+    go later false = refl
 
 none_of : (o : Option ℕ) → not (is_some o) ≡ true → o ≡ None
 none_of None e = refl

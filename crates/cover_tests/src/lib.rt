@@ -41,30 +41,13 @@ mod tests {
         positions: &[Position],
         orders: &[Open],
     ) -> Option<Blocked> {
-        let Ok(bank) = Strip::new(1, given.lines) else {
-            return None;
-        };
-        let Ok(deck) = Deck::judged(heap, given, &[], given.lines.len()) else {
-            return None;
-        };
+        let bank = Strip::new(1, given.lines).ok()?;
+        let deck = Deck::judged(heap, given, &[], given.lines.len()).ok()?;
         margin_of(&bank, &deck, positions, orders)
     }
 
-    // What is blocked for it.
-    fn blocked(
-        heap: Global,
-        given: &Given,
-        positions: &[Position],
-        orders: &[Open],
-    ) -> Option<u64> {
-        match answered(heap, given, positions, orders) {
-            Some(answer) => Some(answer.amount),
-            None => None,
-        }
-    }
-
-    // What is blocked for one future in one netted basket.
-    fn one(heap: Global, net: i64, cost: i64, orders: &[Open]) -> Option<u64> {
+    // What it answers for one future in one netted basket.
+    fn alone(heap: Global, positions: &[Position], orders: &[Open]) -> Option<Blocked> {
         let given = Given {
             families: &[NETTED],
             baskets: &[Basket { family: 0, rule: 1 }],
@@ -72,7 +55,12 @@ mod tests {
             lines: &[future(0, 0)],
             futures: 1,
         };
-        blocked(heap, &given, &[Position { net, cost }], orders)
+        answered(heap, &given, positions, orders)
+    }
+
+    // What is blocked for so many of it, and orders for more.
+    fn one(heap: Global, net: i64, cost: i64, orders: &[Open]) -> Option<u64> {
+        alone(heap, &[Position { net, cost }], orders).map(|answer| answer.amount)
     }
 
     #[test]
@@ -148,10 +136,7 @@ mod tests {
 
     // What is blocked for it.
     fn two_months(heap: Global, rule: i64) -> Option<u64> {
-        match calendar(heap, rule) {
-            Some(answer) => Some(answer.amount),
-            None => None,
-        }
+        calendar(heap, rule).map(|answer| answer.amount)
     }
 
     #[test]
@@ -184,42 +169,24 @@ mod tests {
             net: 1,
             cost: 800_000_000,
         };
-        assert_eq!(rt; blocked(rt.alloc(), &given, &[held, held], &[]), Some(1));
+        let answer = answered(rt.alloc(), &given, &[held, held], &[]);
+        assert_eq!(rt; answer.map(|answer| answer.amount), Some(1));
     }
-
-    const KEPT: Kept = Kept {
-        volatility: 0,
-        rate: None,
-        twist: None,
-    };
-
-    const UNCOUNTED: Counted = Counted {
-        volatility: false,
-        rate: false,
-        twist: false,
-    };
 
     // Nothing is held, and an open buy loses at no point: all is left out, and the order counts nowhere.
     #[test]
     fn nothing_lost(rt: HostRuntime) -> Result<(), Fail> {
-        let given = Given {
-            families: &[NETTED],
-            baskets: &[Basket { family: 0, rule: 1 }],
-            months: &[Month { basket: 0 }],
-            lines: &[future(0, 0)],
-            futures: 1,
-        };
         let orders = [Open {
             line: 0,
             left: 1,
             limit: 90_000,
         }];
-        let answer = answered(rt.alloc(), &given, &[], &orders).ok_or("no answer")?;
+        let answer = alone(rt.alloc(), &[], &orders).ok_or("no answer")?;
         assert_eq!(rt; answer.amount, 0);
         assert_eq!(rt; answer.world.families, [None; 2]);
         assert_eq!(rt; answer.world.baskets, [None; 4]);
         assert_eq!(rt; answer.world.months, [None; 8]);
-        assert_eq!(rt; answer.world.orders, [UNCOUNTED; 32]);
+        assert_eq!(rt; answer.world.orders, [Counted::default(); 32]);
         Ok(())
     }
 
@@ -254,8 +221,8 @@ mod tests {
         assert_eq!(rt; answer.losses, [1_600_000_000, 0]);
         assert_eq!(rt; answer.world.families, [Some(1), None]);
         assert_eq!(rt; answer.world.baskets, [Some(0), Some(2), None, None]);
-        assert_eq!(rt; answer.world.months[0], Some(KEPT));
-        assert_eq!(rt; answer.world.months[1], Some(KEPT));
+        assert_eq!(rt; answer.world.months[0], Some(Kept::default()));
+        assert_eq!(rt; answer.world.months[1], Some(Kept::default()));
         Ok(())
     }
 
@@ -267,7 +234,7 @@ mod tests {
         assert_eq!(rt; answer.amount, 10_000);
         assert_eq!(rt; answer.world.families, [Some(0), None]);
         assert_eq!(rt; answer.world.baskets, [Some(0), None, None, None]);
-        assert_eq!(rt; answer.world.months[0], Some(KEPT));
+        assert_eq!(rt; answer.world.months[0], Some(Kept::default()));
         assert_eq!(rt; answer.world.months[1], None);
         Ok(())
     }
@@ -278,11 +245,11 @@ mod tests {
     fn months_of_a_calendar_spread(rt: HostRuntime) -> Result<(), Fail> {
         let down = Kept {
             rate: Some(3),
-            ..KEPT
+            ..Kept::default()
         };
         let up = Kept {
             rate: Some(4),
-            ..KEPT
+            ..Kept::default()
         };
         let counted = Counted {
             volatility: true,
@@ -293,7 +260,7 @@ mod tests {
         assert_eq!(rt; netted.world.months[0], Some(down));
         assert_eq!(rt; netted.world.months[1], Some(up));
         assert_eq!(rt; netted.world.orders[0], counted);
-        assert_eq!(rt; netted.world.orders[1], UNCOUNTED);
+        assert_eq!(rt; netted.world.orders[1], Counted::default());
         let half = calendar(rt.alloc(), 0).ok_or("no answer")?;
         assert_eq!(rt; half.world.families, [Some(0), None]);
         assert_eq!(rt; half.world.months[0], Some(down));

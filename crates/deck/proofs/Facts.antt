@@ -1,6 +1,10 @@
 -- What holds of cards that no check refuses.
-use Rattle.std.proofs.Common.{◌≡◌, ℕ, ◌+◌, ◌<◌, ◌≤◌, true, ◌||◌, leb, List, [], ◌∷◌, length, get_or, pos, Some, None, Ok, Err, Option, Result, refl, ⊎_elim, arith}
-use Rattle.std.proofs.lemmas.Bool.{and_parts, or_cases, leb-true, eqb-true, lt-leb, both_ways}
+use Rattle.std.proofs.Common.{◌≡◌, ℕ, ◌+◌, ◌<◌, ◌≤◌, true, ◌||◌, leb, List, [], ◌∷◌, length, get_or, pos, negsuc, Some, None, Ok, Err, Option, Result, ℤ, ◌&&◌, refl, ap₂, subst, ⊎_elim, arith}
+use lib.Signed.{le_z}
+use Rattle.std.specs.Ordering.{int_eq}
+use Rattle.std.proofs.lemmas.Bool.Decides.{same_from_decides, Decides-int_eq}
+use Rattle.std.proofs.lemmas.Int.{ints}
+use Rattle.std.proofs.lemmas.Bool.{and_parts, or_cases, leb-true, le-leb, eqb-true, lt-leb, both_ways}
 use Rattle.terms.specs.Cards.{within, future_fits}
 use Rattle.terms.specs.Checks.{unless, refused_at, decided}
 use Rattle.terms.specs.declared.cards.Held.{Held}
@@ -27,6 +31,21 @@ pub along_none : (here : Option ℕ) (count : ℕ) (later : Option ℕ) → alon
 along_none (Some k) count later e = absurd (some_is_none k e)
 along_none None count None e = (refl, refl)
 along_none None count (Some k) e = absurd (some_is_none (count + k) e)
+
+le_itself : (z : ℤ) → le_z z z ≡ true
+le_itself (pos n) = le-leb n n (omega arith)
+le_itself (negsuc n) = le-leb n n (omega arith)
+
+-- two integers are one where neither lies below the other
+pub same_number : (x y : ℤ) → int_eq x y ≡ (le_z y x && le_z x y)
+same_number x y =
+    same_from_decides (int_eq x y) (le_z y x && le_z x y) (Decides-int_eq x y) ((λ e. sides (and_parts (le_z y x) (le_z x y) e)), (λ e. subst (λ (z : ℤ). (le_z z x && le_z x z) ≡ true) e (alike x)))
+  where
+    sides : (le_z y x ≡ true) × (le_z x y ≡ true) → x ≡ y
+    sides (a, b) = omega (arith, ints)
+
+    alike : (z : ℤ) → (le_z z z && le_z z z) ≡ true
+    alike z = ap₂ (λ b d. b && d) (le_itself z) (le_itself z)
 
 -- ---- the facts
 

@@ -1,2 +1,3 @@
 pub mod Facts
 pub mod Kept
+pub mod Positions

@@ -1,12 +1,11 @@
 // What an account is given to begin with.
-ghost use Rattle.std.specs.Prelude.{◌≡◌, ◌^◌, ◌<◌, length, pos};
+ghost use Rattle.std.specs.Prelude.{◌≡◌, pos};
 ghost use Rattle.terms.specs.Cards.{within};
 ghost use Rattle.deck.specs.Judgements.{first_unfit, counted, cards_judged};
 ghost use Rattle.deck.specs.Decks.{given_cards, refusal_of};
 
-use crate::judges::{Baskets, Families, HeldRecords, Lines, Months};
+use crate::judges::{unfit_basket, unfit_family, unfit_line, unfit_month, unfit_record};
 use terms::cards::{Basket, Family, Held, Line, Month};
-use terms::judge::first_failing;
 use terms::refusal::Refusal;
 
 // The cards of a session. The first `futures` lines are futures, and the rest are options.
@@ -24,48 +23,42 @@ impl<'a> Given<'a> {
     pub fn refusal(&self, held: &[Held], bank_lines: usize) -> Option<Refusal>
         ensures { result ≡ refusal_of (cards_judged bank_lines (given_cards self.now) held.now) }
     {
-        match self.first_unfit(held) {
-            Some(place) => Some(Refusal::BadCard(place)),
-            None => {
-                if self.is_counted(bank_lines) {
-                    None
-                } else {
-                    Some(Refusal::WrongShape)
-                }
-            }
+        self.accepted(held, bank_lines).err()
+    }
+
+    // Refuses what an account may not begin with.
+    pub(crate) fn accepted(&self, held: &[Held], bank_lines: usize) -> Result<(), Refusal>
+        ensures { refusal_of result ≡ refusal_of (cards_judged bank_lines (given_cards self.now) held.now) }
+    {
+        if let Some(place) = self.first_unfit(held) {
+            return Err(Refusal::BadCard(place));
         }
+        if !self.is_counted(bank_lines) {
+            return Err(Refusal::WrongShape);
+        }
+        Ok(())
     }
 
     // The place of the first card or held record that does not fit, counted through all lists.
     pub fn first_unfit(&self, held: &[Held]) -> Option<usize>
         ensures { result ≡ first_unfit (given_cards self.now) held.now }
     {
-        let families = families_given(self.families);
-        if let Some(k) = first_failing(&Families, self.families) {
-            return Some(k);
-        }
-        let baskets = baskets_given(self.baskets);
-        if let Some(k) = first_failing(&Baskets { families }, self.baskets) {
-            return Some(families + k);
-        }
-        let months = months_given(self.months);
-        if let Some(k) = first_failing(&Months { baskets }, self.months) {
-            return Some(families + (baskets + k));
-        }
-        let lines = lines_given(self.lines);
-        if let Some(k) = first_failing(
-            &Lines {
-                months,
-                futures: self.futures,
-            },
-            self.lines,
-        ) {
-            return Some(families + (baskets + (months + k)));
-        }
-        match first_failing(&HeldRecords { lines, all: held }, held) {
-            Some(k) => Some(families + (baskets + (months + (lines + k)))),
-            None => None,
-        }
+        let Given {
+            families,
+            baskets,
+            months,
+            lines,
+            futures,
+        } = *self;
+        let first_basket = families.len();
+        let first_month = first_basket + baskets.len();
+        let first_line = first_month + months.len();
+        let first_record = first_line + lines.len();
+        unfit_family(families)
+            .or_else(|| unfit_basket(families.len(), baskets).map(|place| first_basket + place))
+            .or_else(|| unfit_month(baskets.len(), months).map(|place| first_month + place))
+            .or_else(|| unfit_line(months.len(), futures, lines).map(|place| first_line + place))
+            .or_else(|| unfit_record(lines.len(), held).map(|place| first_record + place))
     }
 
     // Whether there are as many of each kind as there may be.
@@ -73,8 +66,12 @@ impl<'a> Given<'a> {
         ensures { result ≡ counted bank_lines (given_cards self.now) }
     {
         let lines = self.lines.len();
-        ((few(self.families.len(), 2) & few(self.baskets.len(), 4)) & few(self.months.len(), 8))
-            & ((few(lines, 16) & (lines == bank_lines)) & few(self.futures, lines))
+        few(self.families.len(), 2)
+            && few(self.baskets.len(), 4)
+            && few(self.months.len(), 8)
+            && few(lines, 16)
+            && lines == bank_lines
+            && few(self.futures, lines)
     }
 }
 
@@ -82,34 +79,5 @@ impl<'a> Given<'a> {
 fn few(count: usize, most: usize) -> bool
     ensures { result ≡ within (pos 1) (pos most) (pos count) }
 {
-    (1 <= count) & (count <= most)
-}
-
-// How many cards are given. A list fits in memory, so that places counted through all lists fit their type.
-fn families_given(cards: &[Family]) -> usize
-    ensures value { result ≡ length cards.now }
-    ensures small { result < 2 ^ 61 }
-{
-    cards.len()
-}
-
-fn baskets_given(cards: &[Basket]) -> usize
-    ensures value { result ≡ length cards.now }
-    ensures small { result < 2 ^ 61 }
-{
-    cards.len()
-}
-
-fn months_given(cards: &[Month]) -> usize
-    ensures value { result ≡ length cards.now }
-    ensures small { result < 2 ^ 61 }
-{
-    cards.len()
-}
-
-fn lines_given(cards: &[Line]) -> usize
-    ensures value { result ≡ length cards.now }
-    ensures small { result < 2 ^ 61 }
-{
-    cards.len()
+    (1..=most).contains(&count)
 }

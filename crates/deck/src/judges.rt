@@ -1,15 +1,15 @@
-// Judges of each kind of card.
-ghost use Rattle.std.specs.Prelude.{◌≡◌};
-ghost use Rattle.deck.specs.Judgements.{name_fits, rule_fits, family_fits, basket_fits, month_fits, line_fits, held_fits, is_other, is_first};
+// Which cards and held records fit: the names that name something, and the numbers that lie in their fields.
+ghost use Rattle.std.specs.Prelude.{◌≡◌, ◌<◌, length, IfSome};
+ghost use Rattle.terms.specs.Judging.{failing};
+ghost use Rattle.deck.specs.Judgements.{name_fits, rule_fits, family_fits, basket_fits, month_fits, line_fits, held_fits, is_first};
 
 use terms::cards::{Basket, Family, Held, Line, Month, between};
-use terms::judge::{Judge, first_failing};
 
 // Whether a name names one of so many.
 pub(crate) fn names(count: usize, name: i64) -> bool
     ensures { result ≡ name_fits count name }
 {
-    (0 <= name) & (i128::from(name) < count as i128)
+    usize::try_from(name).is_ok_and(|number| number < count)
 }
 
 // A rule is 0, half, or 1, netted.
@@ -19,92 +19,65 @@ fn rules(rule: i64) -> bool
     between(rule, 0, 1)
 }
 
-#[derive(Drop)]
-pub struct Families;
-
-impl Judge<Family> for Families {
-    ghost admits = { λ _ _. family_fits };
-
-    fn passes(&self, _place: usize, card: &Family) -> bool {
-        rules(card.rule) & between(card.window, 0, 16)
-    }
-}
-
-#[derive(Drop)]
-pub struct Baskets {
-    pub families: usize,
-}
-
-impl Judge<Basket> for Baskets {
-    ghost admits = { λ j _. basket_fits j.families };
-
-    fn passes(&self, _place: usize, card: &Basket) -> bool {
-        names(self.families, card.family) & rules(card.rule)
-    }
-}
-
-#[derive(Drop)]
-pub struct Months {
-    pub baskets: usize,
-}
-
-impl Judge<Month> for Months {
-    ghost admits = { λ j _. month_fits j.baskets };
-
-    fn passes(&self, _place: usize, card: &Month) -> bool {
-        names(self.baskets, card.basket)
-    }
-}
-
-#[derive(Drop)]
-pub struct Lines {
-    pub months: usize,
-    pub futures: usize,
-}
-
-impl Judge<Line> for Lines {
-    ghost admits = { λ j. line_fits j.months j.futures };
-
-    fn passes(&self, place: usize, card: &Line) -> bool {
-        names(self.months, card.month) & ((self.futures <= place) | card.fits_a_future())
-    }
-}
-
-#[derive(Drop)]
-pub struct HeldRecords<'a> {
-    pub lines: usize,
-    pub all: &'a [Held],
-}
-
-impl<'a> Judge<Held> for HeldRecords<'a> {
-    ghost admits = { λ j. held_fits j.lines j.all.now };
-
-    fn passes(&self, place: usize, record: &Held) -> bool {
-        (names(self.lines, record.line) & between(record.net, -10_000, 10_000))
-            & (between(record.price, 0, 10_000_000) & is_first(record.line, self.all, place))
-    }
-}
-
-// Passes the records of other lines.
-#[derive(Drop)]
-struct OtherLines {
-    line: i64,
-}
-
-impl Judge<Held> for OtherLines {
-    ghost admits = { λ j _. is_other j.line };
-
-    fn passes(&self, _place: usize, record: &Held) -> bool {
-        !between(record.line, self.line, self.line)
-    }
-}
-
 // Whether no record before a place holds the line.
 fn is_first(line: i64, all: &[Held], place: usize) -> bool
     ensures { result ≡ is_first line all.now place }
 {
-    match first_failing(&OtherLines { line }, all) {
-        None => true,
-        Some(first) => place <= first,
-    }
+    all.iter().take(place).all(|record| record.line != line)
+}
+
+// Whether a held record names a line that none before it holds, and its numbers lie in their fields.
+fn holds(lines: usize, all: &[Held], place: usize, held: &Held) -> bool
+    ensures { result ≡ held_fits lines all.now place held.now }
+{
+    let named = names(lines, held.line) && is_first(held.line, all, place);
+    named && between(held.net, -10_000, 10_000) && between(held.price, 0, 10_000_000)
+}
+
+// The place of the first family that does not fit.
+pub(crate) fn unfit_family(families: &[Family]) -> Option<usize>
+    ensures value { result ≡ failing (λ _. family_fits) 0 families.now }
+    ensures inside { IfSome result (λ place. place < length families.now) }
+{
+    families
+        .iter()
+        .position(|card| !(rules(card.rule) && between(card.window, 0, 16)))
+}
+
+// The place of the first basket that does not fit beside so many families.
+pub(crate) fn unfit_basket(families: usize, baskets: &[Basket]) -> Option<usize>
+    ensures value { result ≡ failing (λ _. basket_fits families) 0 baskets.now }
+    ensures inside { IfSome result (λ place. place < length baskets.now) }
+{
+    baskets
+        .iter()
+        .position(|card| !(names(families, card.family) && rules(card.rule)))
+}
+
+// The place of the first month that does not fit beside so many baskets.
+pub(crate) fn unfit_month(baskets: usize, months: &[Month]) -> Option<usize>
+    ensures value { result ≡ failing (λ _. month_fits baskets) 0 months.now }
+    ensures inside { IfSome result (λ place. place < length months.now) }
+{
+    months.iter().position(|card| !names(baskets, card.basket))
+}
+
+// The place of the first line that does not fit beside so many months. The first so many lines are futures.
+pub(crate) fn unfit_line(months: usize, futures: usize, lines: &[Line]) -> Option<usize>
+    ensures value { result ≡ failing (line_fits months futures) 0 lines.now }
+    ensures inside { IfSome result (λ place. place < length lines.now) }
+{
+    lines.iter().enumerate().position(|(place, card)| {
+        !(names(months, card.month) && (futures <= place || card.fits_a_future()))
+    })
+}
+
+// The place of the first held record that does not fit beside so many lines.
+pub(crate) fn unfit_record(lines: usize, held: &[Held]) -> Option<usize>
+    ensures value { result ≡ failing (held_fits lines held.now) 0 held.now }
+    ensures inside { IfSome result (λ place. place < length held.now) }
+{
+    held.iter()
+        .enumerate()
+        .position(|(place, record)| !holds(lines, held, place, record))
 }

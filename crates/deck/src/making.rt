@@ -20,13 +20,8 @@ impl Deck {
     ) -> Result<Deck, Fault>
         ensures { DeckOutcome result (given_cards given.now) (cards_judged bank_lines (given_cards given.now) held.now) }
     {
-        match given.refusal(held, bank_lines) {
-            Some(why) => Err(Fault::Refused(why)),
-            None => match copied(heap, given, held, bank_lines) {
-                Ok(deck) => Ok(deck),
-                Err(_) => Err(Fault::Memory),
-            },
-        }
+        given.accepted(held, bank_lines)?;
+        Ok(copied(heap, given, held, bank_lines)?)
     }
 }
 

@@ -10,46 +10,34 @@ pub mod book;
 pub mod choice;
 
 // The margins of small books, as the definitions give them.
-pub fn figures_hold() -> u8
+pub fn figures_hold()
     ensures { Figures }
-{
-    0
-}
+{}
 
 // The margin is the least amount that no world's loss exceeds; the world handed out is one of the worlds, and none loses more.
-pub fn margin_is_the_least_cover() -> u8
+pub fn margin_is_the_least_cover()
     ensures { MarginIsTheLeastCover }
-{
-    0
-}
+{}
 
 // At each place the world handed out takes the lowest point or column among equals, nothing that may be left out and is not below
 // 0, and an order in a cell exactly if it loses there; and every world that does so takes the same.
-pub fn handed_out_is_lowest() -> u8
+pub fn handed_out_is_lowest()
     ensures lowest { HandedOutIsLowest }
     ensures no_other { NoOtherIsLowest }
-{
-    0
-}
+{}
 
 // Where no cell falls, the margin does not rise.
-pub fn margin_falls_as_cells_rise() -> u8
+pub fn margin_falls_as_cells_rise()
     ensures { MarginFallsAsCellsRise }
-{
-    0
-}
+{}
 
 // An order that is cancelled leaves the margin as it is or lowers it.
-pub fn cancel_never_raises_the_margin() -> u8
+pub fn cancel_never_raises_the_margin()
     ensures { CancelNeverRaisesTheMargin }
-{
-    0
-}
+{}
 
 // So does a fill of an order no worse than its limit, whether or not something is left of the order.
-pub fn fill_never_raises_the_margin() -> u8
+pub fn fill_never_raises_the_margin()
     ensures some_left { FillNeverRaisesTheMargin }
     ensures none_left { LastFillNeverRaisesTheMargin }
-{
-    0
-}
+{}

@@ -122,9 +122,9 @@ fn open_orders() -> [Open; 3] {
 fn answers(rt: &impl Print, deck: &Deck, answer: &Blocked) -> io::Result<()> {
     let amount = answer.amount;
     println!(rt; "blocked: {amount} kopecks")?;
-    for f in 0..deck.families.len() {
-        let loss = answer.losses[f];
-        let (worst, point) = answer.worsts[f];
+    let families = deck.families.len();
+    let rows = answer.losses.iter().zip(&answer.worsts);
+    for (f, (loss, (worst, point))) in rows.enumerate().take(families) {
         println!(rt;
             "  family {f} loses {loss} grains: it comes to {worst} at point {point}, its worst"
         )?;
@@ -136,14 +136,14 @@ fn answers(rt: &impl Print, deck: &Deck, answer: &Blocked) -> io::Result<()> {
 // A world, choice by choice, as far as there are cards and orders.
 fn world(rt: &impl Print, deck: &Deck, orders: usize, chosen: &World) -> io::Result<()> {
     println!(rt; "the world handed out, which loses as much as any:")?;
-    for f in 0..deck.families.len() {
-        at_point(rt, "family", f, chosen.families[f])?;
+    for (f, point) in chosen.families.iter().enumerate().take(deck.families.len()) {
+        at_point(rt, "family", f, *point)?;
     }
-    for b in 0..deck.baskets.len() {
-        at_point(rt, "basket", b, chosen.baskets[b])?;
+    for (b, point) in chosen.baskets.iter().enumerate().take(deck.baskets.len()) {
+        at_point(rt, "basket", b, *point)?;
     }
-    for m in 0..deck.months.len() {
-        month(rt, m, chosen.months[m])?;
+    for (m, kept) in chosen.months.iter().enumerate().take(deck.months.len()) {
+        month(rt, m, *kept)?;
     }
     for (i, counted) in chosen.orders.iter().enumerate().take(orders) {
         order(rt, i, counted)?;
@@ -171,18 +171,11 @@ fn month(rt: &impl Print, m: usize, kept: Option<Kept>) -> io::Result<()> {
 }
 
 fn column(k: usize) -> &'static str {
-    if k < COLUMNS.len() {
-        COLUMNS[k]
-    } else {
-        "no column"
-    }
+    COLUMNS.get(k).copied().unwrap_or("no column")
 }
 
 fn column_or(k: Option<usize>, none: &'static str) -> &'static str {
-    match k {
-        Some(k) => column(k),
-        None => none,
-    }
+    k.map_or(none, column)
 }
 
 // In which of its month's cells an order counts.
@@ -190,18 +183,14 @@ fn order(rt: &impl Print, i: usize, counted: &Counted) -> io::Result<()> {
     if !(counted.volatility || counted.rate || counted.twist) {
         return println!(rt; "  order {i} counts in no cell");
     }
-    print!(rt; "  order {i} counts in its month's cells:")?;
-    word_if(rt, counted.volatility, " volatility")?;
-    word_if(rt, counted.rate, " rates")?;
-    word_if(rt, counted.twist, " twist")?;
-    println!(rt; "")
+    let volatility = word_if(counted.volatility, " volatility");
+    let rate = word_if(counted.rate, " rates");
+    let twist = word_if(counted.twist, " twist");
+    println!(rt; "  order {i} counts in its month's cells:{volatility}{rate}{twist}")
 }
 
-fn word_if(rt: &impl Print, said: bool, word: &str) -> io::Result<()> {
-    if said {
-        print!(rt; "{word}")?;
-    }
-    Ok(())
+fn word_if(said: bool, word: &'static str) -> &'static str {
+    if said { word } else { "" }
 }
 
 fn futures() -> [Line; 2] {

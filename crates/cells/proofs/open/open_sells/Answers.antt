@@ -1,8 +1,15 @@
-use Rattle.std.proofs.Common.{arith}
+use Rattle.std.proofs.Common.{pos, neg_ℤ, ◌∙◌, w64, SFits, rules}
+use Rattle.std.specs.Int.{int_max}
 use Rattle.std.proofs.lemmas.Int.{to_z-of_z}
 use Rattle.margin.specs.Cells.{sells}
 use Rattle.cells.proofs.open.open_sells.Goals as goal
 
 pub returns : goal.returns
 unfolding sells
-returns c = record { value = grind (arith, to_z-of_z); size = grind (arith, to_z-of_z) }
+returns c =
+    let whole : SFits w64 c.over_orders.result = search rules in
+    let kept = to_z-of_z w64 c.over_orders.result whole in
+    record {
+      value = kept ∙ c.over_orders.ensures.value (λ o. int_max (pos 0) (neg_ℤ o.left)) (λ o r e. search rules);
+      size = rw kept (c.over_orders.ensures.size 10000 (λ o r e. search rules));
+    }

@@ -1,17 +1,13 @@
-use Rattle.std.proofs.Common.{arith}
+use Rattle.std.proofs.Common.{◌≡◌, ◌≤◌, sym, ◌∙◌, arith, rules}
+use native.Mathlib.Decide.{dec_lt}
+use lib.ListN.{get_or-eq_default}
 use Rattle.margin.specs.Worlds.{nowhere}
 use Rattle.deck.specs.Decks.{deck_cards}
-use Rattle.layers.proofs.Filling.{none_chosen, one_chosen, all_chosen}
 use Rattle.cells.specs.Books.{book_of}
 use Rattle.cells.specs.Countings.{counted_from}
+use Rattle.cells.proofs.Made.{each_made}
 use Rattle.cells.proofs.Uncounted.{none_beyond}
 use Rattle.cells.proofs.desk.Desk.all_counted.Goals as goal
-
-pub loop-i-init : goal.loop-i-init
-loop-i-init g c = none_chosen nowhere _ 32
-
-pub loop-i-preserved : goal.loop-i-preserved
-loop-i-preserved g c = one_chosen nowhere _ 32 c.loop-i.i c.loop-i.list c.counted.result c.loop-i.invariant (omega arith) c.counted.ensures
 
 pub returns : goal.returns
 returns g c =
@@ -21,4 +17,8 @@ returns g c =
     let book = book_of desk.book in
     let points = c.args.points.now in
     let columns = c.args.columns.now in
-    all_chosen nowhere (counted_from price cards book points columns) 32 c.loop-i.list c.loop-i.i c.loop-i.invariant (omega arith) (λ k h. none_beyond price cards book points columns k (omega (arith, h, desk.book.few_orders)))
+    let made = c.from_fn.ensures in
+    λ k. elim (dec_lt k 32) [
+      | yes less ↦ each_made _ (λ i y. y ≡ counted_from price cards book points columns i) _ (λ i y q called. (search rules, search rules)) c.from_fn.result nowhere 32 made.items k less
+      | no more ↦ (let past : 32 ≤ k = omega arith in get_or-eq_default c.from_fn.result nowhere (omega (arith, made.items.long)) ∙ sym (none_beyond price cards book points columns k (omega (arith, desk.book.few_orders))))
+    ]

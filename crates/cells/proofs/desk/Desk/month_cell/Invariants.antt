@@ -7,4 +7,7 @@ use Rattle.cells.specs.Shares.{line_share}
 use Rattle.cells.proofs.desk.Desk.month_cell.Given as goal
 
 abbrev pub invariant-loop-line : goal.invariant-loop-line
-invariant-loop-line g l = (l.sum ≡ total l.line (in_month (deck_cards l.self.deck.now) l.m) (λ n. line_share l.self.last (g.B.Bank.meaning l.self.bank.now).price (deck_cards l.self.deck.now) (book_of l.self.book) n l.p l.k)) × (nat_abs l.sum ≤ l.line * 2 ^ 61)
+invariant-loop-line g l = record {
+  value : l.sum ≡ total l.line (in_month (deck_cards l.self.deck.now) l.m) (λ n. line_share l.self.last (g.B.Bank.meaning l.self.bank.now).price (deck_cards l.self.deck.now) (book_of l.self.book) n l.p l.k);
+  size : nat_abs l.sum ≤ l.line * 2 ^ 61;
+}

@@ -1,9 +1,8 @@
-use Rattle.std.proofs.Common.{sym, ◌∙◌}
-use Rattle.deck.proofs.Facts.{refused_as, none_refused}
+use Rattle.std.proofs.Common.{sym, rules}
+use Rattle.deck.proofs.Facts.{refused_as}
 use Rattle.deck.proofs.deck.Deck.judged.Goals as goal
 
-pub returns-in-Some : goal.returns-in-Some
-returns-in-Some c = refused_as _ c.in-Some.why (sym c.refusal.ensures ∙ c.in-Some.is)
-
-pub returns-in-Err : goal.returns-in-Err
-returns-in-Err c = none_refused _ _ _ (sym c.refusal.ensures ∙ c.in-None.is)
+pub returns-in_err-accepted : goal.returns-in_err-accepted
+returns-in_err-accepted c =
+    let refused = refused_as _ c.in_err-accepted.field-0.0 (sym c.in_err-accepted.ensures) in
+    search (rules, refused)

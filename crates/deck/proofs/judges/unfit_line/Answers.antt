@@ -1,0 +1,13 @@
+use Rattle.std.proofs.Common.{not, rules, tests}
+use Rattle.std.proofs.lemmas.Iterator.{YieldsList-from_slice}
+use Rattle.std.proofs.lemmas.Iterator.Consumers.{YieldsList-from_enumerate}
+use Rattle.std.proofs.lemmas.Iterator.Search.{position_from_yields_List}
+use Rattle.deck.specs.Judgements.{line_fits}
+use Rattle.deck.proofs.Positions.{failing_enumerated}
+use Rattle.deck.proofs.judges.unfit_line.Goals as goal
+
+pub returns-clause-value : goal.returns-clause-value
+returns-clause-value c =
+    let test = line_fits c.args.months c.args.futures in
+    let lines = c.args.lines.now in
+    failing_enumerated test lines _ (position_from_yields_List (λ p. not (test p.0 p.1)) _ _ _ c.position.ensures.ran (YieldsList-from_enumerate (YieldsList-from_slice lines (cc)) (cc)) (λ x b q k. search (rules, tests)))
