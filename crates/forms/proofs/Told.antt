@@ -1,5 +1,6 @@
 -- The reader's answers, by cases.
-use Rattle.std.proofs.Common.{◌≡◌, ℕ, ◌+◌, ◌-◌, ◌<◌, ◌≤◌, Bool, true, false, eqb, List, [], ◌∷◌, length, take, drop, ℤ, Ok, Err, Result, sym, ap, ◌∙◌, arith}
+use Rattle.std.proofs.Common.{◌≡◌, ℕ, ◌+◌, ◌-◌, ◌<◌, ◌≤◌, Bool, true, false, not, ◌&&◌, eqb, count_by, List, [], ◌∷◌, length, take, drop, ℤ, Ok, Err, Result, sym, ap, ◌∙◌, arith}
+use Rattle.std.specs.List.{take_while}
 use Rattle.std.proofs.lemmas.List.{take_rest, length-drop}
 use Rattle.std.proofs.lemmas.Bool.{ltb-true, and_parts, true≢false}
 use Rattle.terms.specs.declared.refusal.Refusal.{Refusal}
@@ -8,6 +9,7 @@ use Rattle.text.specs.Numbers.{number_at}
 use Rattle.forms.specs.Reads.{Told, then, given, is_head, spaces, stands, behind, byte_in, number_in, field_in, open_in, fits_head, head_in, begins, outer_in, close_in}
 use Rattle.forms.specs.declared.field.Allowed.{Allowed}
 use Rattle.forms.specs.Fields.{allows, Asked}
+use Rattle.forms.proofs.Fronts.{spaces_counted}
 
 pub stands_inside : (c : ℕ) (text : List ℕ) (at : ℕ) → stands c text at ≡ true → at < length text
 stands_inside c text at e = ltb-true at (length text) (and_parts _ _ e).0
@@ -61,6 +63,14 @@ module _ (a : Asked) (bracket : ℕ) (text : List ℕ) (at : ℕ) where
   pub head_wrong : false ≡ fits_head a (drop at text) → Err (WrongForm bracket) ≡ head_in a bracket text at
   unfolding head_in
   head_wrong e = rw (sym e)
+
+  pub fits_not : false ≡ is_head a.head (take (length text - at) (drop at text)) → false ≡ fits_head a (drop at text)
+  fits_not e = ap (λ t. t && eqb (spaces 0 (drop at text)) a.count) (e ∙ ap (is_head a.head) (take_rest text at))
+
+  pub fits_is : (n : ℕ) → true ≡ is_head a.head (take (length text - at) (drop at text)) → n ≡ count_by (λ b. eqb b 32) (take_while (λ b. not (eqb b 41)) (take (length text - at) (drop at text))) → eqb n a.count ≡ fits_head a (drop at text)
+  fits_is n e f =
+      let counted : n ≡ spaces 0 (drop at text) = omega (arith, f ∙ ap (λ l. count_by (λ b. eqb b 32) (take_while (λ b. not (eqb b 41)) l)) (take_rest text at), spaces_counted 0 (drop at text)) in
+      ap (λ t. t && eqb n a.count) (e ∙ ap (is_head a.head) (take_rest text at)) ∙ ap (λ k. is_head a.head (drop at text) && eqb k a.count) counted
 
 head_short : (h bs : List ℕ) → is_head h bs ≡ true → length h ≤ length bs
 head_short [] bs e = omega arith

@@ -1,7 +1,8 @@
 // Rows of prices. Which row is due, how many prices it has and what they may be follow from what stands before it.
 ghost use Rattle.std.specs.Prelude.{◌≡◌, ◌+◌, ◌≤◌, [], ◌∷◌, length, take, pos, codes, refl};
 ghost use Rattle.forms.specs.Fields.{asked};
-ghost use Rattle.forms.specs.Reads.{told, Listed, numbers_in, inner_in};
+ghost use Rattle.forms.specs.Moves.{Fills, Moves};
+ghost use Rattle.forms.specs.Reads.{Listed, numbers_in, inner_in};
 ghost use Rattle.forms.specs.Rows.{line_asked, column_asked, price_allowed, prices_asked, is_due, due_in, front_in, added, row_in, rows_in, ReadsRows};
 ghost use Rattle.terms.specs.Halves.{points};
 
@@ -85,14 +86,13 @@ fn prices_of(half: Half, column: usize) -> Field
 fn is_due(due: u128, number: i64) -> bool
     ensures { result ≡ is_due due number }
 {
-    number >= 0 && number as u128 == due
+    u128::try_from(number).is_ok_and(|n| n == due)
 }
 
 impl Reader<'_> {
     // An inner form with the number that is due. Another number is refused at the row's bracket.
     fn due_number(&mut self, field: &Field, due: u128, bracket: usize) -> Result<(), Refusal>
-        ensures answer { told result self.new.at ≡ due_in (asked field.now) due bracket self.old.text.now self.old.at }
-        ensures same { self.new.text.now ≡ self.old.text.now }
+        ensures { Moves (due_in (asked field.now) due bracket) self.old self.new result }
     {
         let number = self.inner_form::<RowName>(0, field, 0)?;
         if is_due(due, number) {
@@ -103,8 +103,7 @@ impl Reader<'_> {
     }
     // The front of a row: its head, then its line and its column, each judged before what stands behind it is read.
     fn row_front(&mut self, line: u128, column: usize) -> Result<(), Refusal>
-        ensures answer { told result self.new.at ≡ front_in line column self.old.text.now self.old.at }
-        ensures same { self.new.text.now ≡ self.old.text.now }
+        ensures { Moves (front_in line column) self.old self.new result }
     {
         let bracket = self.place();
         self.outer_head(b"row")?;
@@ -120,8 +119,7 @@ impl Reader<'_> {
         from: usize,
     ) -> Result<usize, Refusal>
         requires { from + field.now.count ≤ length out.old }
-        ensures answer { Listed (numbers_in added field.now.allowed self.old.text.now field.now.count 0 (take from out.old) self.old.at) result self.new.at out.old out.new }
-        ensures same { self.new.text.now ≡ self.old.text.now }
+        ensures { Fills (λ text at. numbers_in added field.now.allowed text field.now.count 0 (take from out.old) at) self.old self.new result out.old out.new }
     {
         for index in 0..field.count {
             let value = self.spaced_number(field.allowed)?;
@@ -132,13 +130,12 @@ impl Reader<'_> {
     // The prices of a row, written into the list from a place on; answers the place behind them.
     fn prices(&mut self, field: &Field, out: &mut [i64], from: usize) -> Result<usize, Refusal>
         requires { from + field.now.count ≤ length out.old }
-        ensures answer { Listed (inner_in added (asked field.now) self.old.text.now (take from out.old) self.old.at) result self.new.at out.old out.new }
-        ensures same { self.new.text.now ≡ self.old.text.now }
+        ensures { Fills (λ text at. inner_in added (asked field.now) text (take from out.old) at) self.old self.new result out.old out.new }
     {
         let bracket = self.open_inner()?;
         self.asked_head(field, bracket)?;
         let end = self.numbers_into(field, out, from)?;
-        self.expect(')')?;
+        self.expect(b')')?;
         Ok(end)
     }
 
@@ -152,8 +149,7 @@ impl Reader<'_> {
         from: usize,
     ) -> Result<usize, Refusal>
         requires { from + points half ≤ length out.old }
-        ensures answer { Listed (row_in line column half self.old.text.now (take from out.old) self.old.at) result self.new.at out.old out.new }
-        ensures same { self.new.text.now ≡ self.old.text.now }
+        ensures { Fills (λ text at. row_in line column half text (take from out.old) at) self.old self.new result out.old out.new }
     {
         self.row_front(line, column)?;
         let end = self.prices(&prices_of(half, column), out, from)?;
@@ -174,19 +170,6 @@ impl Reader<'_> {
         ensures answer { Listed (rows_in first half self.old.text.now (length out.old) count 0 [] self.old.at) result self.new.at out.old out.new }
         ensures same { self.new.text.now ≡ self.old.text.now }
         ensures reads { ReadsRows }
-    {
-        self.all_rows(first, half, count, out)
-    }
-
-    fn all_rows(
-        &mut self,
-        first: usize,
-        half: Half,
-        count: usize,
-        out: &mut [i64],
-    ) -> Result<usize, Refusal>
-        ensures answer { Listed (rows_in first half self.old.text.now (length out.old) count 0 [] self.old.at) result self.new.at out.old out.new }
-        ensures same { self.new.text.now ≡ self.old.text.now }
     {
         let mut end = 0;
         for index in 0..count {

@@ -1,6 +1,6 @@
 use Rattle.std.proofs.Common.{◌≡◌, ◌-◌, ◌≤◌, [], length, take, drop}
 use Rattle.forms.specs.Reads.{list_on}
-use Rattle.forms.proofs.reader.Reader.list_forms.Given as goal
+use Rattle.forms.proofs.reader.Reader.list.Given as goal
 
 abbrev pub invariant-loop-head : goal.invariant-loop-head
 invariant-loop-head g l =
