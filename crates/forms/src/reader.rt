@@ -6,6 +6,9 @@ ghost use Rattle.forms.specs.Reads.{told, form_in, list_on, Listed};
 use crate::kind::Kind;
 use terms::refusal::Refusal;
 
+// The columns of prices: a line of options has a row for each.
+pub const COLUMNS: usize = 7;
+
 // The text, and the place that is read next.
 #[derive(Drop)]
 pub struct Reader<'a> {
@@ -56,15 +59,18 @@ impl Reader<'_> {
         ensures reads { ReadsLists K.Kind.head_of K.Kind.fields_of K.Kind.empty K.Kind.filled }
     {
         let head = K::first_head();
-        let mut count = 0;
-        while self.begins_with(head) {
-            if count >= out.len() {
-                return Err(Refusal::WrongForm(self.at));
+        // By index, since nothing is known of a list that is written through `iter_mut().enumerate()`.
+        for count in 0..out.len() {
+            if !self.begins_with(head) {
+                return Ok(count);
             }
             let record = self.form::<K>()?;
             out[count] = record;
-            count += 1;
         }
-        Ok(count)
+        if self.begins_with(head) {
+            Err(Refusal::WrongForm(self.at))
+        } else {
+            Ok(out.len())
+        }
     }
 }

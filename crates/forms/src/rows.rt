@@ -8,7 +8,7 @@ ghost use Rattle.terms.specs.Halves.{points};
 
 use crate::field::{Allowed, Field};
 use crate::kind::Kind;
-use crate::reader::Reader;
+use crate::reader::{COLUMNS, Reader};
 use terms::half::Half;
 use terms::refusal::Refusal;
 
@@ -101,6 +101,7 @@ impl Reader<'_> {
             Err(Refusal::WrongForm(bracket))
         }
     }
+
     // The front of a row: its head, then its line and its column, each judged before what stands behind it is read.
     fn row_front(&mut self, line: u128, column: usize) -> Result<(), Refusal>
         ensures { Moves (front_in line column) self.old self.new result }
@@ -127,7 +128,10 @@ impl Reader<'_> {
         }
         Ok(from + field.count)
     }
-    // The prices of a row, written into the list from a place on; answers the place behind them.
+
+    // The prices of a row, written into the list from a place on; answers the place behind them. Like an inner form that fills
+    // a record, but for the list: one function for both would take a closure over the reader and the list, and its contract
+    // would have to say what the closure does to each.
     fn prices(&mut self, field: &Field, out: &mut [i64], from: usize) -> Result<usize, Refusal>
         requires { from + field.now.count ≤ length out.old }
         ensures { Fills (λ text at. inner_in added (asked field.now) text (take from out.old) at) self.old self.new result out.old out.new }
@@ -172,12 +176,13 @@ impl Reader<'_> {
         ensures reads { ReadsRows }
     {
         let mut end = 0;
+        // The caller counts rows, and may stop within a line, so that no loop over lines holds one over columns.
         for index in 0..count {
             if out.len() - end < half.points() {
                 return Err(Refusal::WrongForm(self.place()));
             }
-            let line = first as u128 + (index / 7) as u128;
-            end = self.row(line, index % 7, half, out, end)?;
+            let line = first as u128 + (index / COLUMNS) as u128;
+            end = self.row(line, index % COLUMNS, half, out, end)?;
         }
         Ok(end)
     }
