@@ -22,7 +22,9 @@ returns c =
     let part = subst (λ (l : List Line). Listed (any_at option_format text (length l) at) c.list.result c.list.new.self.at l ys) (take_rest xs a) c.list.ensures.answer in
     let room = subst (λ (n : ℕ). Listed (any_at option_format text n at) c.list.result c.list.new.self.at (drop a xs) ys) (length-drop a xs) part in
     record {
-      answer = subst (λ (l : List Line). Listed (any_at option_format text (length xs - a) at) c.list.result c.list.new.self.at (drop a xs) l) (sym whole) room;
+      behind = record {
+        answer = subst (λ (l : List Line). Listed (any_at option_format text (length xs - a) at) c.list.result c.list.new.self.at (drop a xs) l) (sym whole) room;
+        same = c.list.ensures.same;
+      };
       front = take-put_mid_below a (length xs - a) xs ys a (omega arith) inside;
-      same = c.list.ensures.same;
     }
