@@ -6,7 +6,8 @@ use Rattle.std.proofs.lemmas.Bool.{ltb-true, and_parts, true≢false}
 use Rattle.terms.specs.declared.refusal.Refusal.{Refusal}
 use Rattle.terms.specs.declared.refusal.Refusal.TheVariants.{Malformed, OutsideField, WrongForm}
 use Rattle.text.specs.Numbers.{number_at}
-use Rattle.forms.specs.Reads.{Told, then, given, is_head, spaces, stands, behind, byte_in, number_in, field_in, open_in, fits_head, head_in, begins, outer_in, close_in}
+use Rattle.forms.specs.Moves.{holding}
+use Rattle.forms.specs.Reads.{Told, told, then, given, is_head, spaces, stands, behind, byte_in, number_in, field_in, open_in, fits_head, head_in, begins, outer_in, close_in}
 use Rattle.forms.specs.declared.field.Allowed.{Allowed}
 use Rattle.forms.specs.Fields.{allows, Asked}
 use Rattle.forms.proofs.Fronts.{spaces_counted}
@@ -45,6 +46,11 @@ then_ok t x q more u e f = f ∙ ap (λ r. then r more) e
 
 pub then_err : {X Y : Type 0} (t : Told X) (e : Refusal) (more : X → ℕ → Told Y) → Err e ≡ t → Err e ≡ then t more
 then_err t e more f = ap (λ r. then r more) f
+
+-- a last step that answers nothing of its own, behind something that was read into a list
+pub then_last : {R : Type 0} (r : Result (Unit {0}) Refusal) (xs : List R) (at : ℕ) (t : Told (Unit {0})) → told r at ≡ t → told (holding r xs) at ≡ then t (λ _ q. Ok (xs, q))
+then_last (Ok x) xs at t e = ap (λ u. then u (λ _ q. Ok (xs, q))) e
+then_last (Err f) xs at t e = ap (λ u. then u (λ _ q. Ok (xs, q))) e
 
 module _ (text : List ℕ) (at : ℕ) where
   pub open_missing : true ≡ stands 41 text at → Err (WrongForm at) ≡ open_in text at

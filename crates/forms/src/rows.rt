@@ -1,7 +1,7 @@
 // Rows of prices. Which row is due, how many prices it has and what they may be follow from what stands before it.
-ghost use Rattle.std.specs.Prelude.{◌≡◌, ◌+◌, ◌≤◌, [], ◌∷◌, length, take, pos, codes, refl};
+ghost use Rattle.std.specs.Prelude.{◌≡◌, ◌+◌, [], ◌∷◌, length, pos, codes, refl};
 ghost use Rattle.forms.specs.Fields.{asked};
-ghost use Rattle.forms.specs.Moves.{Fills, Moves};
+ghost use Rattle.forms.specs.Moves.{Moves, holding};
 ghost use Rattle.forms.specs.Reads.{Listed, numbers_in, inner_in};
 ghost use Rattle.forms.specs.Rows.{line_asked, column_asked, price_allowed, prices_asked, is_due, due_in, front_in, added, row_in, rows_in, ReadsRows};
 ghost use Rattle.terms.specs.Halves.{points};
@@ -112,53 +112,38 @@ impl Reader<'_> {
         self.due_number(&COLUMN, column as u128, bracket)
     }
 
-    // The numbers of an inner form, written into the list from a place on; answers the place behind them.
-    fn numbers_into(
-        &mut self,
-        field: &Field,
-        out: &mut [i64],
-        from: usize,
-    ) -> Result<usize, Refusal>
-        requires { from + field.now.count ≤ length out.old }
-        ensures { Fills (λ text at. numbers_in added field.now.allowed text field.now.count 0 (take from out.old) at) self.old self.new result out.old out.new }
+    // The numbers of an inner form, written into a list of as many.
+    fn numbers_into(&mut self, field: &Field, out: &mut [i64]) -> Result<(), Refusal>
+        requires { length out.old ≡ field.now.count }
+        ensures { Moves (λ text at. numbers_in added field.now.allowed text field.now.count 0 [] at) self.old self.new (holding result out.new) }
     {
-        for index in 0..field.count {
-            let value = self.spaced_number(field.allowed)?;
-            out[from + index] = value;
+        for price in out.iter_mut() {
+            *price = self.spaced_number(field.allowed)?;
         }
-        Ok(from + field.count)
+        Ok(())
     }
 
-    // The prices of a row, written into the list from a place on; answers the place behind them. Like an inner form that fills
-    // a record, but for the list: one function for both would take a closure over the reader and the list, and its contract
-    // would have to say what the closure does to each.
-    fn prices(&mut self, field: &Field, out: &mut [i64], from: usize) -> Result<usize, Refusal>
-        requires { from + field.now.count ≤ length out.old }
-        ensures { Fills (λ text at. inner_in added (asked field.now) text (take from out.old) at) self.old self.new result out.old out.new }
+    // The prices of a row, written into a list of as many. Like an inner form that fills a record, but for the list: one
+    // function for both would take a closure over the reader and the list, and its contract would have to say what the
+    // closure does to each.
+    fn prices(&mut self, field: &Field, out: &mut [i64]) -> Result<(), Refusal>
+        requires { length out.old ≡ field.now.count }
+        ensures { Moves (λ text at. inner_in added (asked field.now) text [] at) self.old self.new (holding result out.new) }
     {
         let bracket = self.open_inner()?;
         self.asked_head(field, bracket)?;
-        let end = self.numbers_into(field, out, from)?;
-        self.expect(b')')?;
-        Ok(end)
+        self.numbers_into(field, out)?;
+        self.expect(b')')
     }
 
-    // The row that is due, its prices written into the list from a place on; answers the place behind them.
-    fn row(
-        &mut self,
-        line: u128,
-        column: usize,
-        half: Half,
-        out: &mut [i64],
-        from: usize,
-    ) -> Result<usize, Refusal>
-        requires { from + points half ≤ length out.old }
-        ensures { Fills (λ text at. row_in line column half text (take from out.old) at) self.old self.new result out.old out.new }
+    // The row that is due, its prices written into a list of as many.
+    fn row(&mut self, line: u128, column: usize, half: Half, out: &mut [i64]) -> Result<(), Refusal>
+        requires { length out.old ≡ points half }
+        ensures { Moves (λ text at. row_in line column half text [] at) self.old self.new (holding result out.new) }
     {
         self.row_front(line, column)?;
-        let end = self.prices(&prices_of(half, column), out, from)?;
-        self.close_line()?;
-        Ok(end)
+        self.prices(&prices_of(half, column), out)?;
+        self.close_line()
     }
 
     // So many rows, those of the line `first` before those of the lines behind it, seven for each line; their prices are
@@ -175,14 +160,16 @@ impl Reader<'_> {
         ensures same { self.new.text.now ≡ self.old.text.now }
         ensures reads { ReadsRows }
     {
+        let size = half.points();
         let mut end = 0;
         // The caller counts rows, and may stop within a line, so that no loop over lines holds one over columns.
         for index in 0..count {
-            if out.len() - end < half.points() {
+            if out.len() - end < size {
                 return Err(Refusal::WrongForm(self.place()));
             }
             let line = first as u128 + (index / COLUMNS) as u128;
-            end = self.row(line, index % COLUMNS, half, out, end)?;
+            self.row(line, index % COLUMNS, half, &mut out[end..end + size])?;
+            end += size;
         }
         Ok(end)
     }

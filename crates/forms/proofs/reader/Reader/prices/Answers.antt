@@ -1,11 +1,9 @@
-use Rattle.std.proofs.Common.{take, refl, ap, ◌∙◌}
+use Rattle.std.proofs.Common.{[], ap, ◌∙◌}
 use Rattle.std.proofs.lemmas.Result.{err_from_is_err_and}
 use Rattle.forms.specs.Fields.{asked}
 use Rattle.forms.specs.Reads.{byte_in, head_in, numbers_in, inner_in}
 use Rattle.forms.specs.Rows.{added}
-use Rattle.forms.proofs.Told.{then_ok, then_err}
-use Rattle.forms.proofs.Turns.{listed_err, listed_ok}
-use Rattle.forms.proofs.RowTurns.{listed_yes, listed_no}
+use Rattle.forms.proofs.Told.{then_ok, then_err, then_last}
 use Rattle.forms.proofs.reader.Reader.prices.Goals as goal
 
 pub returns-in_err-bracket : goal.returns-in_err-bracket
@@ -13,7 +11,7 @@ unfolding inner_in
 returns-in_err-bracket c =
     let p = err_from_is_err_and c.from_residual.result c.from_residual.ensures.1 in
     let tells = c.in_err-bracket.ensures in
-    rw (p.1, p.2) (record { answer = listed_err _ _ _ _ _ (then_err _ _ _ tells.answer); same = tells.same })
+    rw (p.1, p.2) (record { answer = then_err _ _ _ tells.answer; same = tells.same })
 
 pub returns-in_err-asked_head : goal.returns-in_err-asked_head
 unfolding inner_in
@@ -22,48 +20,29 @@ returns-in_err-asked_head c =
     let first = c.in_ok-bracket.ensures in
     let tells = c.in_err-asked_head.ensures in
     let next = tells.answer ∙ ap (λ t. head_in (asked c.args.field.now) c.in_ok-bracket.bracket t c.open_inner.new.self.at) first.same in
-    rw (p.1, p.2) (record { answer = listed_err _ _ _ _ _ (then_ok _ _ _ _ _ first.answer (then_err _ _ _ next)); same = tells.same ∙ first.same })
+    rw (p.1, p.2) (record { answer = then_ok _ _ _ _ _ first.answer (then_err _ _ _ next); same = tells.same ∙ first.same })
 
-pub returns-in_err-end : goal.returns-in_err-end
+pub returns-in_err-numbers_into : goal.returns-in_err-numbers_into
 unfolding inner_in
-returns-in_err-end c =
-    let p = err_from_is_err_and c.from_residual-in_err-end.result c.from_residual-in_err-end.ensures.1 in
+returns-in_err-numbers_into c =
+    let p = err_from_is_err_and c.from_residual-in_err-numbers_into.result c.from_residual-in_err-numbers_into.ensures.1 in
     let first = c.in_ok-bracket.ensures in
     let second = c.in_ok-asked_head.ensures in
     let same = second.same ∙ first.same in
     let head = second.answer ∙ ap (λ t. head_in (asked c.args.field.now) c.in_ok-bracket.bracket t c.open_inner.new.self.at) first.same in
-    let tells = c.in_err-end.ensures in
-    let next = listed_no _ _ _ _ _ tells.answer ∙ ap (λ t. numbers_in added c.args.field.now.allowed t c.args.field.now.count 0 (take c.args.from c.args.out.now) c.asked_head.new.self.at) same in
-    rw (p.1, p.2) (record { answer = listed_err _ _ _ _ _ (then_ok _ _ _ _ _ first.answer (then_ok _ _ _ _ _ head (then_err _ _ _ next))); same = tells.same ∙ same })
-
-pub returns-in_err-expect : goal.returns-in_err-expect
-unfolding inner_in
-returns-in_err-expect c =
-    let p = err_from_is_err_and c.from_residual-in_err-expect.result c.from_residual-in_err-expect.ensures.1 in
-    let first = c.in_ok-bracket.ensures in
-    let second = c.in_ok-asked_head.ensures in
-    let third = c.in_ok-end.ensures in
-    let same = second.same ∙ first.same in
-    let head = second.answer ∙ ap (λ t. head_in (asked c.args.field.now) c.in_ok-bracket.bracket t c.open_inner.new.self.at) first.same in
-    let read = listed_yes _ _ _ _ _ third.answer in
-    let numbers = read.1 ∙ ap (λ t. numbers_in added c.args.field.now.allowed t c.args.field.now.count 0 (take c.args.from c.args.out.now) c.asked_head.new.self.at) same in
-    let tells = c.in_err-expect.ensures in
-    let next = tells.answer ∙ ap (λ t. byte_in 41 t c.numbers_into.new.self.at) (third.same ∙ same) in
-    rw (p.1, p.2) (record { answer = listed_err _ _ _ _ _ (then_ok _ _ _ _ _ first.answer (then_ok _ _ _ _ _ head (then_ok _ _ _ _ _ numbers (then_err _ _ _ next)))); same = tells.same ∙ third.same ∙ same })
+    let tells = c.in_err-numbers_into.ensures in
+    let next = tells.answer ∙ ap (λ t. numbers_in added c.args.field.now.allowed t c.args.field.now.count 0 [] c.asked_head.new.self.at) same in
+    rw (p.1, p.2) (record { answer = then_ok _ _ _ _ _ first.answer (then_ok _ _ _ _ _ head (then_err _ _ _ next)); same = tells.same ∙ same })
 
 pub returns : goal.returns
 unfolding inner_in
 returns c =
     let first = c.in_ok-bracket.ensures in
     let second = c.in_ok-asked_head.ensures in
-    let third = c.in_ok-end.ensures in
+    let third = c.in_ok-numbers_into.ensures in
     let same = second.same ∙ first.same in
     let head = second.answer ∙ ap (λ t. head_in (asked c.args.field.now) c.in_ok-bracket.bracket t c.open_inner.new.self.at) first.same in
-    let read = listed_yes _ _ _ _ _ third.answer in
-    let numbers = read.1 ∙ ap (λ t. numbers_in added c.args.field.now.allowed t c.args.field.now.count 0 (take c.args.from c.args.out.now) c.asked_head.new.self.at) same in
-    let tells = c.in_ok-expect.ensures in
+    let numbers = third.answer ∙ ap (λ t. numbers_in added c.args.field.now.allowed t c.args.field.now.count 0 [] c.asked_head.new.self.at) same in
+    let tells = c.expect.ensures in
     let next = tells.answer ∙ ap (λ t. byte_in 41 t c.numbers_into.new.self.at) (third.same ∙ same) in
-    record {
-      answer = listed_ok _ read.0 _ _ _ _ (then_ok _ _ _ _ _ first.answer (then_ok _ _ _ _ _ head (then_ok _ _ _ _ _ numbers (then_ok _ _ _ _ _ next refl)))) read.2 read.3;
-      same = tells.same ∙ third.same ∙ same;
-    }
+    record { answer = then_ok _ _ _ _ _ first.answer (then_ok _ _ _ _ _ head (then_ok _ _ _ _ _ numbers (then_last _ _ _ _ next))); same = tells.same ∙ third.same ∙ same }
