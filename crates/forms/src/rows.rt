@@ -1,13 +1,12 @@
 // Rows of prices. Which row is due, how many prices it has and what they may be follow from what stands before it.
-ghost use Rattle.std.specs.Prelude.{◌≡◌, ◌+◌, [], ◌∷◌, length, pos, codes, refl};
+ghost use Rattle.std.specs.Prelude.{◌≡◌, [], length};
 ghost use Rattle.forms.specs.Fields.{asked};
 ghost use Rattle.forms.specs.Moves.{Moves, holding};
 ghost use Rattle.forms.specs.Reads.{Listed, numbers_in, inner_in};
-ghost use Rattle.forms.specs.Rows.{line_asked, column_asked, price_allowed, prices_asked, is_due, due_in, front_in, added, row_in, rows_in, ReadsRows};
+ghost use Rattle.forms.specs.Rows.{price_allowed, prices_asked, is_due, due_in, front_in, added, row_in, rows_in, ReadsRows};
 ghost use Rattle.terms.specs.Halves.{points};
 
 use crate::field::{Allowed, Field};
-use crate::kind::Kind;
 use crate::reader::{COLUMNS, Reader};
 use terms::half::Half;
 use terms::refusal::Refusal;
@@ -23,43 +22,6 @@ const COLUMN: Field = Field {
     count: 1,
     allowed: Allowed::Any,
 };
-
-// The name of a row, read number by number: its line, then its column.
-pub struct RowName;
-
-impl Kind for RowName {
-    type Record = i64;
-
-    ghost head_of = { codes "row" };
-
-    ghost fields_of = { line_asked ∷ column_asked ∷ [] };
-
-    ghost lettered = { (refl, (refl, (refl, tt))) };
-
-    ghost empty = { pos 0 };
-
-    ghost filled = { λ _ _ _ n. n };
-
-    const HEAD: &'static [u8] = b"row";
-
-    const FIELDS: &'static [Field] = &[LINE, COLUMN];
-
-    fn first_head() -> &'static [u8] {
-        Self::HEAD
-    }
-
-    fn inner_forms() -> &'static [Field] {
-        Self::FIELDS
-    }
-
-    fn blank() -> i64 {
-        0
-    }
-
-    fn fill(_so_far: i64, _inner: usize, _index: usize, number: i64) -> i64 {
-        number
-    }
-}
 
 // The numbers that a price in a column may be.
 fn allowed_in(column: usize) -> Allowed
@@ -90,12 +52,37 @@ fn is_due(due: u128, number: i64) -> bool
 }
 
 impl Reader<'_> {
-    // An inner form with the number that is due. Another number is refused at the row's bracket.
+    // The numbers of an inner form, written into a list of as many.
+    fn numbers_into(&mut self, field: &Field, out: &mut [i64]) -> Result<(), Refusal>
+        requires { length out.old ≡ field.now.count }
+        ensures { Moves (λ text at. numbers_in added field.now.allowed text field.now.count 0 [] at) self.old self.new (holding result out.new) }
+    {
+        for price in out.iter_mut() {
+            *price = self.spaced_number(field.allowed)?;
+        }
+        Ok(())
+    }
+
+    // An inner form, its numbers written into a list of as many. Like one that fills a record, but for the list: one function
+    // for both would take a closure over the reader and the list, and its contract would have to say what it does to each.
+    fn inner_numbers(&mut self, field: &Field, out: &mut [i64]) -> Result<(), Refusal>
+        requires { length out.old ≡ field.now.count }
+        ensures { Moves (λ text at. inner_in added (asked field.now) text [] at) self.old self.new (holding result out.new) }
+    {
+        let bracket = self.open_inner()?;
+        self.asked_head(field, bracket)?;
+        self.numbers_into(field, out)?;
+        self.expect(b')')
+    }
+
+    // An inner form of one number, which has to be the one that is due. Another number is refused at the row's bracket.
     fn due_number(&mut self, field: &Field, due: u128, bracket: usize) -> Result<(), Refusal>
+        requires { field.now.count ≡ 1 }
         ensures { Moves (due_in (asked field.now) due bracket) self.old self.new result }
     {
-        let number = self.inner_form::<RowName>(0, field, 0)?;
-        if is_due(due, number) {
+        let mut number = [0];
+        self.inner_numbers(field, &mut number)?;
+        if is_due(due, number[0]) {
             Ok(())
         } else {
             Err(Refusal::WrongForm(bracket))
@@ -112,37 +99,13 @@ impl Reader<'_> {
         self.due_number(&COLUMN, column as u128, bracket)
     }
 
-    // The numbers of an inner form, written into a list of as many.
-    fn numbers_into(&mut self, field: &Field, out: &mut [i64]) -> Result<(), Refusal>
-        requires { length out.old ≡ field.now.count }
-        ensures { Moves (λ text at. numbers_in added field.now.allowed text field.now.count 0 [] at) self.old self.new (holding result out.new) }
-    {
-        for price in out.iter_mut() {
-            *price = self.spaced_number(field.allowed)?;
-        }
-        Ok(())
-    }
-
-    // The prices of a row, written into a list of as many. Like an inner form that fills a record, but for the list: one
-    // function for both would take a closure over the reader and the list, and its contract would have to say what the
-    // closure does to each.
-    fn prices(&mut self, field: &Field, out: &mut [i64]) -> Result<(), Refusal>
-        requires { length out.old ≡ field.now.count }
-        ensures { Moves (λ text at. inner_in added (asked field.now) text [] at) self.old self.new (holding result out.new) }
-    {
-        let bracket = self.open_inner()?;
-        self.asked_head(field, bracket)?;
-        self.numbers_into(field, out)?;
-        self.expect(b')')
-    }
-
     // The row that is due, its prices written into a list of as many.
     fn row(&mut self, line: u128, column: usize, half: Half, out: &mut [i64]) -> Result<(), Refusal>
         requires { length out.old ≡ points half }
         ensures { Moves (λ text at. row_in line column half text [] at) self.old self.new (holding result out.new) }
     {
         self.row_front(line, column)?;
-        self.prices(&prices_of(half, column), out)?;
+        self.inner_numbers(&prices_of(half, column), out)?;
         self.close_line()
     }
 

@@ -113,7 +113,7 @@ impl Reader<'_> {
     }
 
     // An inner form, filled into the record.
-    pub(crate) fn inner_form<K: Kind>(
+    fn inner_form<K: Kind>(
         &mut self,
         inner: usize,
         field: &Field,

@@ -4,7 +4,7 @@ use Rattle.forms.specs.Fields.{asked}
 use Rattle.forms.specs.Reads.{byte_in, head_in, numbers_in, inner_in}
 use Rattle.forms.specs.Rows.{added}
 use Rattle.forms.proofs.Told.{then_ok, then_err, then_last}
-use Rattle.forms.proofs.reader.Reader.prices.Goals as goal
+use Rattle.forms.proofs.reader.Reader.inner_numbers.Goals as goal
 
 pub returns-in_err-bracket : goal.returns-in_err-bracket
 unfolding inner_in
