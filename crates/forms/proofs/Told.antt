@@ -112,9 +112,6 @@ module _ (head text : List ℕ) (at : ℕ) where
       let inside = stands_inside 40 text at p.0 in
       omega (arith, simp length-drop at (head_short head (drop (at + 1) text) p.1))
 
-  pub begins_is : (r : Bool) → true ≡ stands 40 text at → r ≡ is_head head (take (length text - (at + 1)) (drop (at + 1) text)) → r ≡ begins head text at
-  begins_is r e f = f ∙ ap (is_head head) (take_rest text (at + 1)) ∙ rw (sym e)
-
 pub given_yes : {X : Type 0} (t : Bool) (e : Refusal) (u v : Told X) → true ≡ t → u ≡ v → u ≡ given t e v
 given_yes t e u v h f = f ∙ ap (λ b. given b e v) h
 
