@@ -1,4 +1,4 @@
-pub mod Steps
+pub mod Fronts
 pub mod Told
 pub mod Turns
 pub mod There

@@ -1,13 +1,16 @@
 -- The reader's answers, by cases.
-use Rattle.std.proofs.Common.{◌≡◌, ℕ, ◌+◌, ◌-◌, ◌<◌, ◌≤◌, Bool, true, false, eqb, List, [], ◌∷◌, length, take, drop, ℤ, Ok, Err, Result, sym, ap, ◌∙◌, arith}
+use Rattle.std.proofs.Common.{◌≡◌, ℕ, ◌+◌, ◌-◌, ◌<◌, ◌≤◌, Bool, true, false, not, ◌&&◌, eqb, count_by, List, [], ◌∷◌, length, take, drop, ℤ, Ok, Err, Result, sym, ap, ◌∙◌, arith}
+use Rattle.std.specs.List.{take_while}
 use Rattle.std.proofs.lemmas.List.{take_rest, length-drop}
 use Rattle.std.proofs.lemmas.Bool.{ltb-true, and_parts, true≢false}
 use Rattle.terms.specs.declared.refusal.Refusal.{Refusal}
 use Rattle.terms.specs.declared.refusal.Refusal.TheVariants.{Malformed, OutsideField, WrongForm}
 use Rattle.text.specs.Numbers.{number_at}
-use Rattle.forms.specs.Reads.{Told, then, given, is_head, spaces, stands, behind, byte_in, number_in, field_in, open_in, fits_head, head_in, begins, outer_in, close_in}
+use Rattle.forms.specs.Moves.{holding}
+use Rattle.forms.specs.Reads.{Told, told, then, given, is_head, spaces, stands, behind, byte_in, number_in, field_in, open_in, fits_head, head_in, begins, outer_in, close_in}
 use Rattle.forms.specs.declared.field.Allowed.{Allowed}
 use Rattle.forms.specs.Fields.{allows, Asked}
+use Rattle.forms.proofs.Fronts.{spaces_counted}
 
 pub stands_inside : (c : ℕ) (text : List ℕ) (at : ℕ) → stands c text at ≡ true → at < length text
 stands_inside c text at e = ltb-true at (length text) (and_parts _ _ e).0
@@ -44,6 +47,11 @@ then_ok t x q more u e f = f ∙ ap (λ r. then r more) e
 pub then_err : {X Y : Type 0} (t : Told X) (e : Refusal) (more : X → ℕ → Told Y) → Err e ≡ t → Err e ≡ then t more
 then_err t e more f = ap (λ r. then r more) f
 
+-- a last step that answers nothing of its own, behind something that was read into a list
+pub then_last : {R : Type 0} (r : Result (Unit {0}) Refusal) (xs : List R) (at : ℕ) (t : Told (Unit {0})) → told r at ≡ t → told (holding r xs) at ≡ then t (λ _ q. Ok (xs, q))
+then_last (Ok x) xs at t e = ap (λ u. then u (λ _ q. Ok (xs, q))) e
+then_last (Err f) xs at t e = ap (λ u. then u (λ _ q. Ok (xs, q))) e
+
 module _ (text : List ℕ) (at : ℕ) where
   pub open_missing : true ≡ stands 41 text at → Err (WrongForm at) ≡ open_in text at
   unfolding open_in
@@ -61,6 +69,14 @@ module _ (a : Asked) (bracket : ℕ) (text : List ℕ) (at : ℕ) where
   pub head_wrong : false ≡ fits_head a (drop at text) → Err (WrongForm bracket) ≡ head_in a bracket text at
   unfolding head_in
   head_wrong e = rw (sym e)
+
+  pub fits_not : false ≡ is_head a.head (take (length text - at) (drop at text)) → false ≡ fits_head a (drop at text)
+  fits_not e = ap (λ t. t && eqb (spaces 0 (drop at text)) a.count) (e ∙ ap (is_head a.head) (take_rest text at))
+
+  pub fits_is : (n : ℕ) → true ≡ is_head a.head (take (length text - at) (drop at text)) → n ≡ count_by (λ b. eqb b 32) (take_while (λ b. not (eqb b 41)) (take (length text - at) (drop at text))) → eqb n a.count ≡ fits_head a (drop at text)
+  fits_is n e f =
+      let counted : n ≡ spaces 0 (drop at text) = omega (arith, f ∙ ap (λ l. count_by (λ b. eqb b 32) (take_while (λ b. not (eqb b 41)) l)) (take_rest text at), spaces_counted 0 (drop at text)) in
+      ap (λ t. t && eqb n a.count) (e ∙ ap (is_head a.head) (take_rest text at)) ∙ ap (λ k. is_head a.head (drop at text) && eqb k a.count) counted
 
 head_short : (h bs : List ℕ) → is_head h bs ≡ true → length h ≤ length bs
 head_short [] bs e = omega arith
@@ -95,9 +111,6 @@ module _ (head text : List ℕ) (at : ℕ) where
       let p = and_parts (stands 40 text at) (is_head head (drop (at + 1) text)) (sym e) in
       let inside = stands_inside 40 text at p.0 in
       omega (arith, simp length-drop at (head_short head (drop (at + 1) text) p.1))
-
-  pub begins_is : (r : Bool) → true ≡ stands 40 text at → r ≡ is_head head (take (length text - (at + 1)) (drop (at + 1) text)) → r ≡ begins head text at
-  begins_is r e f = f ∙ ap (is_head head) (take_rest text (at + 1)) ∙ rw (sym e)
 
 pub given_yes : {X : Type 0} (t : Bool) (e : Refusal) (u v : Told X) → true ≡ t → u ≡ v → u ≡ given t e v
 given_yes t e u v h f = f ∙ ap (λ b. given b e v) h

@@ -1,4 +1,5 @@
 pub mod Fields
 pub mod Reads
+pub mod Moves
 pub mod Judged
 pub mod Rows

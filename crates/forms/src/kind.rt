@@ -22,6 +22,8 @@ pub trait Kind {
 
     const FIELDS: &'static [Field];
 
+    // The two constants, as what the ghost members say. They have no bodies here: a trait doesn't know an implementor's
+    // constants, and a law about them would ask one fact more of each kind.
     fn first_head() -> &'static [u8]
         ensures { result.now ≡ head_of };
 

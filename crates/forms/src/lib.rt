@@ -5,4 +5,5 @@ pub mod field;
 pub mod kind;
 pub mod reader;
 mod rows;
+mod steps;
 mod takes;

@@ -1,13 +1,13 @@
 // Rows of prices. Which row is due, how many prices it has and what they may be follow from what stands before it.
-ghost use Rattle.std.specs.Prelude.{◌≡◌, ◌+◌, ◌≤◌, [], ◌∷◌, length, take, pos, codes, refl};
+ghost use Rattle.std.specs.Prelude.{◌≡◌, [], length};
 ghost use Rattle.forms.specs.Fields.{asked};
-ghost use Rattle.forms.specs.Reads.{told, Listed, numbers_in, inner_in};
-ghost use Rattle.forms.specs.Rows.{line_asked, column_asked, price_allowed, prices_asked, is_due, due_in, front_in, added, row_in, rows_in, ReadsRows};
+ghost use Rattle.forms.specs.Moves.{Moves, holding};
+ghost use Rattle.forms.specs.Reads.{Listed, numbers_in, inner_in};
+ghost use Rattle.forms.specs.Rows.{price_allowed, prices_asked, is_due, due_in, front_in, added, row_in, rows_in, ReadsRows};
 ghost use Rattle.terms.specs.Halves.{points};
 
 use crate::field::{Allowed, Field};
-use crate::kind::Kind;
-use crate::reader::Reader;
+use crate::reader::{COLUMNS, Reader};
 use terms::half::Half;
 use terms::refusal::Refusal;
 
@@ -22,43 +22,6 @@ const COLUMN: Field = Field {
     count: 1,
     allowed: Allowed::Any,
 };
-
-// The name of a row, read number by number: its line, then its column.
-pub struct RowName;
-
-impl Kind for RowName {
-    type Record = i64;
-
-    ghost head_of = { codes "row" };
-
-    ghost fields_of = { line_asked ∷ column_asked ∷ [] };
-
-    ghost lettered = { (refl, (refl, (refl, tt))) };
-
-    ghost empty = { pos 0 };
-
-    ghost filled = { λ _ _ _ n. n };
-
-    const HEAD: &'static [u8] = b"row";
-
-    const FIELDS: &'static [Field] = &[LINE, COLUMN];
-
-    fn first_head() -> &'static [u8] {
-        Self::HEAD
-    }
-
-    fn inner_forms() -> &'static [Field] {
-        Self::FIELDS
-    }
-
-    fn blank() -> i64 {
-        0
-    }
-
-    fn fill(_so_far: i64, _inner: usize, _index: usize, number: i64) -> i64 {
-        number
-    }
-}
 
 // The numbers that a price in a column may be.
 fn allowed_in(column: usize) -> Allowed
@@ -85,26 +48,50 @@ fn prices_of(half: Half, column: usize) -> Field
 fn is_due(due: u128, number: i64) -> bool
     ensures { result ≡ is_due due number }
 {
-    number >= 0 && number as u128 == due
+    u128::try_from(number).is_ok_and(|n| n == due)
 }
 
 impl Reader<'_> {
-    // An inner form with the number that is due. Another number is refused at the row's bracket.
-    fn due_number(&mut self, field: &Field, due: u128, bracket: usize) -> Result<(), Refusal>
-        ensures answer { told result self.new.at ≡ due_in (asked field.now) due bracket self.old.text.now self.old.at }
-        ensures same { self.new.text.now ≡ self.old.text.now }
+    // The numbers of an inner form, written into a list of as many.
+    fn numbers_into(&mut self, field: &Field, out: &mut [i64]) -> Result<(), Refusal>
+        requires { length out.old ≡ field.now.count }
+        ensures { Moves (λ text at. numbers_in added field.now.allowed text field.now.count 0 [] at) self.old self.new (holding result out.new) }
     {
-        let number = self.inner_form::<RowName>(0, field, 0)?;
-        if is_due(due, number) {
+        for price in out.iter_mut() {
+            *price = self.spaced_number(field.allowed)?;
+        }
+        Ok(())
+    }
+
+    // An inner form, its numbers written into a list of as many. Like one that fills a record, but for the list: one function
+    // for both would take a closure over the reader and the list, and its contract would have to say what it does to each.
+    fn inner_numbers(&mut self, field: &Field, out: &mut [i64]) -> Result<(), Refusal>
+        requires { length out.old ≡ field.now.count }
+        ensures { Moves (λ text at. inner_in added (asked field.now) text [] at) self.old self.new (holding result out.new) }
+    {
+        let bracket = self.open_inner()?;
+        self.asked_head(field, bracket)?;
+        self.numbers_into(field, out)?;
+        self.expect(b')')
+    }
+
+    // An inner form of one number, which has to be the one that is due. Another number is refused at the row's bracket.
+    fn due_number(&mut self, field: &Field, due: u128, bracket: usize) -> Result<(), Refusal>
+        requires { field.now.count ≡ 1 }
+        ensures { Moves (due_in (asked field.now) due bracket) self.old self.new result }
+    {
+        let mut number = [0];
+        self.inner_numbers(field, &mut number)?;
+        if is_due(due, number[0]) {
             Ok(())
         } else {
             Err(Refusal::WrongForm(bracket))
         }
     }
+
     // The front of a row: its head, then its line and its column, each judged before what stands behind it is read.
     fn row_front(&mut self, line: u128, column: usize) -> Result<(), Refusal>
-        ensures answer { told result self.new.at ≡ front_in line column self.old.text.now self.old.at }
-        ensures same { self.new.text.now ≡ self.old.text.now }
+        ensures { Moves (front_in line column) self.old self.new result }
     {
         let bracket = self.place();
         self.outer_head(b"row")?;
@@ -112,53 +99,14 @@ impl Reader<'_> {
         self.due_number(&COLUMN, column as u128, bracket)
     }
 
-    // The numbers of an inner form, written into the list from a place on; answers the place behind them.
-    fn numbers_into(
-        &mut self,
-        field: &Field,
-        out: &mut [i64],
-        from: usize,
-    ) -> Result<usize, Refusal>
-        requires { from + field.now.count ≤ length out.old }
-        ensures answer { Listed (numbers_in added field.now.allowed self.old.text.now field.now.count 0 (take from out.old) self.old.at) result self.new.at out.old out.new }
-        ensures same { self.new.text.now ≡ self.old.text.now }
-    {
-        for index in 0..field.count {
-            let value = self.spaced_number(field.allowed)?;
-            out[from + index] = value;
-        }
-        Ok(from + field.count)
-    }
-    // The prices of a row, written into the list from a place on; answers the place behind them.
-    fn prices(&mut self, field: &Field, out: &mut [i64], from: usize) -> Result<usize, Refusal>
-        requires { from + field.now.count ≤ length out.old }
-        ensures answer { Listed (inner_in added (asked field.now) self.old.text.now (take from out.old) self.old.at) result self.new.at out.old out.new }
-        ensures same { self.new.text.now ≡ self.old.text.now }
-    {
-        let bracket = self.open_inner()?;
-        self.asked_head(field, bracket)?;
-        let end = self.numbers_into(field, out, from)?;
-        self.expect(')')?;
-        Ok(end)
-    }
-
-    // The row that is due, its prices written into the list from a place on; answers the place behind them.
-    fn row(
-        &mut self,
-        line: u128,
-        column: usize,
-        half: Half,
-        out: &mut [i64],
-        from: usize,
-    ) -> Result<usize, Refusal>
-        requires { from + points half ≤ length out.old }
-        ensures answer { Listed (row_in line column half self.old.text.now (take from out.old) self.old.at) result self.new.at out.old out.new }
-        ensures same { self.new.text.now ≡ self.old.text.now }
+    // The row that is due, its prices written into a list of as many.
+    fn row(&mut self, line: u128, column: usize, half: Half, out: &mut [i64]) -> Result<(), Refusal>
+        requires { length out.old ≡ points half }
+        ensures { Moves (λ text at. row_in line column half text [] at) self.old self.new (holding result out.new) }
     {
         self.row_front(line, column)?;
-        let end = self.prices(&prices_of(half, column), out, from)?;
-        self.close_line()?;
-        Ok(end)
+        self.inner_numbers(&prices_of(half, column), out)?;
+        self.close_line()
     }
 
     // So many rows, those of the line `first` before those of the lines behind it, seven for each line; their prices are
@@ -175,26 +123,16 @@ impl Reader<'_> {
         ensures same { self.new.text.now ≡ self.old.text.now }
         ensures reads { ReadsRows }
     {
-        self.all_rows(first, half, count, out)
-    }
-
-    fn all_rows(
-        &mut self,
-        first: usize,
-        half: Half,
-        count: usize,
-        out: &mut [i64],
-    ) -> Result<usize, Refusal>
-        ensures answer { Listed (rows_in first half self.old.text.now (length out.old) count 0 [] self.old.at) result self.new.at out.old out.new }
-        ensures same { self.new.text.now ≡ self.old.text.now }
-    {
+        let size = half.points();
         let mut end = 0;
+        // The caller counts rows, and may stop within a line, so that no loop over lines holds one over columns.
         for index in 0..count {
-            if out.len() - end < half.points() {
+            if out.len() - end < size {
                 return Err(Refusal::WrongForm(self.place()));
             }
-            let line = first as u128 + (index / 7) as u128;
-            end = self.row(line, index % 7, half, out, end)?;
+            let line = first as u128 + (index / COLUMNS) as u128;
+            self.row(line, index % COLUMNS, half, &mut out[end..end + size])?;
+            end += size;
         }
         Ok(end)
     }

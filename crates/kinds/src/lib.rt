@@ -1,29 +1,14 @@
 // The kinds of form that fill a record of their own, each with its head, its inner forms and their fields.
 #![tactic(auto)]
 
-ghost use Rattle.std.specs.Prelude.{◌≡◌, refl, [], ◌∷◌, pos, negsuc, codes};
-ghost use Rattle.forms.specs.declared.field.Allowed.TheVariants.{Any, Between, HalfSize};
-ghost use Rattle.kinds.specs.Formats.{grid_format};
-ghost use Rattle.kinds.specs.Filled.{no_line, family_with, basket_with, future_with, held_with, order_with, rate_with, limit_with};
+ghost use Rattle.std.specs.Prelude.{◌≡◌, refl, pos};
+ghost use Rattle.kinds.specs.Formats.{grid_format, family_format, basket_format, month_format, future_format, option_format, cash_format, held_format, order_format};
+ghost use Rattle.kinds.specs.Filled.{rate_with, limit_with};
 
 use forms::field::{Allowed, Field};
 use forms::kind::Kind;
 use terms::cards::{Basket, Family, Held, Limits, Line, Month, Rates};
 use terms::half::Half;
-
-// A line before any of its numbers is read.
-const NO_LINE: Line = Line {
-    month: 0,
-    price: 0,
-    spot: 0,
-    change: 0,
-    rates: Rates {
-        r1: 0,
-        r2: 0,
-        r3: 0,
-    },
-    limits: Limits { a: 0, b: 0 },
-};
 
 fn rate(so_far: Rates, index: usize, number: i64) -> Rates
     ensures { result ≡ rate_with so_far index number }
@@ -59,14 +44,22 @@ fn limit(so_far: Limits, index: usize, number: i64) -> Limits
     }
 }
 
+// What both kinds of the grid's form ask for.
+const HALF: &[Field] = &[Field {
+    head: b"half",
+    count: 1,
+    allowed: Allowed::HalfSize,
+}];
+
+// The form of a grid, with its half as a number.
 pub struct GridForm;
 
 impl Kind for GridForm {
     type Record = i64;
 
-    ghost head_of = { codes "grid" };
+    ghost head_of = { grid_format.head };
 
-    ghost fields_of = { record { head = codes "half"; count = 1; allowed = HalfSize } ∷ [] };
+    ghost fields_of = { grid_format.fields };
 
     ghost lettered = { (refl, (refl, tt)) };
 
@@ -76,11 +69,7 @@ impl Kind for GridForm {
 
     const HEAD: &'static [u8] = b"grid";
 
-    const FIELDS: &'static [Field] = &[Field {
-        head: b"half",
-        count: 1,
-        allowed: Allowed::HalfSize,
-    }];
+    const FIELDS: &'static [Field] = HALF;
 
     fn first_head() -> &'static [u8] {
         Self::HEAD
@@ -117,11 +106,7 @@ impl Kind for HalfForm {
 
     const HEAD: &'static [u8] = b"grid";
 
-    const FIELDS: &'static [Field] = &[Field {
-        head: b"half",
-        count: 1,
-        allowed: Allowed::HalfSize,
-    }];
+    const FIELDS: &'static [Field] = HALF;
 
     fn first_head() -> &'static [u8] {
         Self::HEAD
@@ -137,10 +122,7 @@ impl Kind for HalfForm {
 
     // The field takes halves alone, so that the number is one.
     fn fill(so_far: Half, _inner: usize, _index: usize, number: i64) -> Half {
-        match Half::of(number) {
-            Some(half) => half,
-            None => so_far,
-        }
+        Half::of(number).unwrap_or(so_far)
     }
 }
 
@@ -149,15 +131,15 @@ pub struct FamilyForm;
 impl Kind for FamilyForm {
     type Record = Family;
 
-    ghost head_of = { codes "family" };
+    ghost head_of = { family_format.head };
 
-    ghost fields_of = { record { head = codes "rule"; count = 1; allowed = Between (pos 0) (pos 1) } ∷ record { head = codes "window"; count = 1; allowed = Between (pos 0) (pos 16) } ∷ [] };
+    ghost fields_of = { family_format.fields };
 
     ghost lettered = { (refl, (refl, (refl, tt))) };
 
-    ghost empty = { record { rule = pos 0; window = pos 0 } };
+    ghost empty = { family_format.empty };
 
-    ghost filled = { family_with };
+    ghost filled = { family_format.fill };
 
     const HEAD: &'static [u8] = b"family";
 
@@ -183,7 +165,7 @@ impl Kind for FamilyForm {
     }
 
     fn blank() -> Family {
-        Family { rule: 0, window: 0 }
+        Family::default()
     }
 
     fn fill(so_far: Family, inner: usize, _index: usize, number: i64) -> Family {
@@ -205,15 +187,15 @@ pub struct BasketForm;
 impl Kind for BasketForm {
     type Record = Basket;
 
-    ghost head_of = { codes "basket" };
+    ghost head_of = { basket_format.head };
 
-    ghost fields_of = { record { head = codes "family"; count = 1; allowed = Any } ∷ record { head = codes "rule"; count = 1; allowed = Between (pos 0) (pos 1) } ∷ [] };
+    ghost fields_of = { basket_format.fields };
 
     ghost lettered = { (refl, (refl, (refl, tt))) };
 
-    ghost empty = { record { family = pos 0; rule = pos 0 } };
+    ghost empty = { basket_format.empty };
 
-    ghost filled = { basket_with };
+    ghost filled = { basket_format.fill };
 
     const HEAD: &'static [u8] = b"basket";
 
@@ -239,7 +221,7 @@ impl Kind for BasketForm {
     }
 
     fn blank() -> Basket {
-        Basket { family: 0, rule: 0 }
+        Basket::default()
     }
 
     fn fill(so_far: Basket, inner: usize, _index: usize, number: i64) -> Basket {
@@ -261,15 +243,15 @@ pub struct MonthForm;
 impl Kind for MonthForm {
     type Record = Month;
 
-    ghost head_of = { codes "month" };
+    ghost head_of = { month_format.head };
 
-    ghost fields_of = { record { head = codes "basket"; count = 1; allowed = Any } ∷ [] };
+    ghost fields_of = { month_format.fields };
 
     ghost lettered = { (refl, (refl, tt)) };
 
-    ghost empty = { record { basket = pos 0 } };
+    ghost empty = { month_format.empty };
 
-    ghost filled = { λ _ _ _ n. record { basket = n } };
+    ghost filled = { month_format.fill };
 
     const HEAD: &'static [u8] = b"month";
 
@@ -288,7 +270,7 @@ impl Kind for MonthForm {
     }
 
     fn blank() -> Month {
-        Month { basket: 0 }
+        Month::default()
     }
 
     fn fill(_so_far: Month, _inner: usize, _index: usize, number: i64) -> Month {
@@ -301,15 +283,15 @@ pub struct FutureForm;
 impl Kind for FutureForm {
     type Record = Line;
 
-    ghost head_of = { codes "future" };
+    ghost head_of = { future_format.head };
 
-    ghost fields_of = { record { head = codes "month"; count = 1; allowed = Any } ∷ record { head = codes "price"; count = 1; allowed = Between (pos 0) (pos 10000000) } ∷ record { head = codes "spot"; count = 1; allowed = Between (pos 0) (pos 10000000) } ∷ record { head = codes "change"; count = 1; allowed = Between (pos 0) (pos 1000000) } ∷ record { head = codes "rates"; count = 3; allowed = Between (pos 1) (pos 10000) } ∷ record { head = codes "limits"; count = 2; allowed = Between (pos 0) (pos 10000) } ∷ [] };
+    ghost fields_of = { future_format.fields };
 
     ghost lettered = { (refl, (refl, (refl, (refl, (refl, (refl, (refl, tt))))))) };
 
-    ghost empty = { no_line };
+    ghost empty = { future_format.empty };
 
-    ghost filled = { future_with };
+    ghost filled = { future_format.fill };
 
     const HEAD: &'static [u8] = b"future";
 
@@ -355,7 +337,7 @@ impl Kind for FutureForm {
     }
 
     fn blank() -> Line {
-        NO_LINE
+        Line::default()
     }
 
     fn fill(so_far: Line, inner: usize, index: usize, number: i64) -> Line {
@@ -393,15 +375,15 @@ pub struct OptionForm;
 impl Kind for OptionForm {
     type Record = Line;
 
-    ghost head_of = { codes "option" };
+    ghost head_of = { option_format.head };
 
-    ghost fields_of = { record { head = codes "month"; count = 1; allowed = Any } ∷ [] };
+    ghost fields_of = { option_format.fields };
 
     ghost lettered = { (refl, (refl, tt)) };
 
-    ghost empty = { no_line };
+    ghost empty = { option_format.empty };
 
-    ghost filled = { λ _ l _ n. record { month = n; price = l.price; spot = l.spot; change = l.change; rates = l.rates; limits = l.limits } };
+    ghost filled = { option_format.fill };
 
     const HEAD: &'static [u8] = b"option";
 
@@ -420,7 +402,7 @@ impl Kind for OptionForm {
     }
 
     fn blank() -> Line {
-        NO_LINE
+        Line::default()
     }
 
     fn fill(so_far: Line, _inner: usize, _index: usize, number: i64) -> Line {
@@ -436,15 +418,15 @@ pub struct CashForm;
 impl Kind for CashForm {
     type Record = i64;
 
-    ghost head_of = { codes "cash" };
+    ghost head_of = { cash_format.head };
 
-    ghost fields_of = { record { head = codes "amount"; count = 1; allowed = Between (pos 0) (pos 100000000000000) } ∷ [] };
+    ghost fields_of = { cash_format.fields };
 
     ghost lettered = { (refl, (refl, tt)) };
 
-    ghost empty = { pos 0 };
+    ghost empty = { cash_format.empty };
 
-    ghost filled = { λ _ _ _ n. n };
+    ghost filled = { cash_format.fill };
 
     const HEAD: &'static [u8] = b"cash";
 
@@ -476,15 +458,15 @@ pub struct HeldForm;
 impl Kind for HeldForm {
     type Record = Held;
 
-    ghost head_of = { codes "held" };
+    ghost head_of = { held_format.head };
 
-    ghost fields_of = { record { head = codes "line"; count = 1; allowed = Any } ∷ record { head = codes "net"; count = 1; allowed = Between (negsuc 9999) (pos 10000) } ∷ record { head = codes "price"; count = 1; allowed = Between (pos 0) (pos 10000000) } ∷ [] };
+    ghost fields_of = { held_format.fields };
 
     ghost lettered = { (refl, (refl, (refl, (refl, tt)))) };
 
-    ghost empty = { record { line = pos 0; net = pos 0; price = pos 0 } };
+    ghost empty = { held_format.empty };
 
-    ghost filled = { held_with };
+    ghost filled = { held_format.fill };
 
     const HEAD: &'static [u8] = b"held";
 
@@ -515,11 +497,7 @@ impl Kind for HeldForm {
     }
 
     fn blank() -> Held {
-        Held {
-            line: 0,
-            net: 0,
-            price: 0,
-        }
+        Held::default()
     }
 
     fn fill(so_far: Held, inner: usize, _index: usize, number: i64) -> Held {
@@ -553,15 +531,15 @@ pub struct OrderForm;
 impl Kind for OrderForm {
     type Record = Order;
 
-    ghost head_of = { codes "order" };
+    ghost head_of = { order_format.head };
 
-    ghost fields_of = { record { head = codes "line"; count = 1; allowed = Any } ∷ record { head = codes "net"; count = 1; allowed = Any } ∷ record { head = codes "price"; count = 1; allowed = Any } ∷ [] };
+    ghost fields_of = { order_format.fields };
 
     ghost lettered = { (refl, (refl, (refl, (refl, tt)))) };
 
-    ghost empty = { record { line = pos 0; net = pos 0; price = pos 0 } };
+    ghost empty = { order_format.empty };
 
-    ghost filled = { λ inner o _ n. order_with inner o n };
+    ghost filled = { order_format.fill };
 
     const HEAD: &'static [u8] = b"order";
 
@@ -592,11 +570,7 @@ impl Kind for OrderForm {
     }
 
     fn blank() -> Order {
-        Order {
-            line: 0,
-            net: 0,
-            price: 0,
-        }
+        Order::default()
     }
 
     fn fill(so_far: Order, inner: usize, _index: usize, number: i64) -> Order {

@@ -1,9 +1,11 @@
 -- A file as a whole: what passed the checks, what is in use of the lists, and what is left of them where it was refused.
-use Rattle.std.proofs.Common.{◌≡◌, ℕ, ◌+◌, ◌≤◌, true, false, eqb, List, [], ◌++◌, length, take, drop, replicate, pos, is_err, IfOk, Ok, Err, Result, sym, refl, ap, ◌∙◌, subst, arith, length-append}
+use Rattle.std.proofs.Common.{◌≡◌, ℕ, ◌+◌, ◌≤◌, true, false, eqb, List, [], ◌∷◌, ◌++◌, length, take, drop, replicate, pos, is_err, IfOk, Some, None, Ok, Err, Option, Result, sym, refl, ap, ◌∙◌, subst, arith, length-append}
 use Rattle.std.proofs.lemmas.List.{take_at, length-replicate}
 use Rattle.std.proofs.lemmas.Bool.{eqb-true, true≢false, false≢true}
-use Rattle.terms.specs.Checks.{decided}
+use Rattle.terms.specs.Checks.{refused_at, decided}
 use Rattle.terms.specs.declared.refusal.Refusal.{Refusal}
+use Rattle.terms.specs.declared.refusal.Refusal.TheVariants.{BadCard}
+use Rattle.deck.specs.Judgements.{first_unfit}
 use Rattle.terms.proofs.Passed.{passed_unless, err_is_ok}
 use Rattle.load.specs.declared.lists.Lengths.{Lengths}
 use Rattle.load.specs.declared.loading.Loaded.{Loaded}
@@ -11,7 +13,7 @@ use Rattle.kinds.specs.Formats.{family_format, basket_format, month_format, futu
 use Rattle.load.specs.Days.{Day, Contents, lengths_of, zeros}
 use Rattle.load.specs.Reading.{day_in, over, with_day}
 use Rattle.load.specs.Loading.{wanted, list_checks, text_checks, card_checks, cards_of, next, loading, loaded_of, answer_of, held_by, Kept}
-use Rattle.load.specs.Used.{Inside, used_cards}
+use Rattle.load.specs.Used.{Inside, used_cards, used_checks}
 use Rattle.load.proofs.Parts.{all_long}
 use Rattle.load.proofs.Rooms.{take_over}
 
@@ -32,6 +34,17 @@ lengths_are given e =
     let held = eqb-true given.held 16 g.0 in
     let orders = eqb-true given.orders 2000 h.0 in
     λ i. record { families = families i; baskets = baskets i; months = months i; lines = lines i; prices = prices i; held = held i; orders = orders i }
+
+-- checks that pass or refuse something do the same to another
+pub decided_yes : {X : Type 0} (checks : List (Option Refusal)) (x : X) → Ok tt ≡ decided {X = Unit {0}} checks tt → Ok x ≡ decided checks x
+decided_yes [] x e = refl
+decided_yes (None ∷ checks) x e = decided_yes checks x e
+decided_yes (Some why ∷ checks) x e = absurd (err_is_ok why tt (sym e))
+
+pub decided_no : {X : Type 0} (checks : List (Option Refusal)) (x : X) (e : Refusal) → Err e ≡ decided {X = Unit {0}} checks tt → Err e ≡ decided checks x
+decided_no [] x e f = absurd (err_is_ok e tt f)
+decided_no (None ∷ checks) x e f = decided_no checks x e f
+decided_no (Some why ∷ checks) x e f = let same : e ≡ why = cc in ap Err same
 
 pub next_parts : {X Y : Type 0} (t : Result X Refusal) (more : X → Result Y Refusal) (y : Y) → next t more ≡ Ok y → (x : X) × (t ≡ Ok x) × (more x ≡ Ok y)
 next_parts (Ok x) more y e = (x, refl, e)
@@ -100,7 +113,7 @@ module _ (d : Day) (lists : Contents) where
     orders = long_over d.orders lists.orders;
   }
 
-  pub cards_used : used_cards (loaded_of d) (with_day d lists) ≡ cards_of d
+  cards_used : used_cards (loaded_of d) (with_day d lists) ≡ cards_of d
   cards_used =
       let families = take_over d.families [] lists.families in
       let baskets = take_over d.baskets [] lists.baskets in
@@ -108,8 +121,12 @@ module _ (d : Day) (lists : Contents) where
       let both = take_at (d.futures ++ d.options) (drop (length (d.futures ++ d.options)) lists.lines) (length d.futures + length d.options) (length-append d.futures d.options) in
       λ i. record { families = families i; baskets = baskets i; months = months i; lines = both i; futures = length d.futures }
 
-  pub held_used : take (length d.held) (over d.held lists.held) ≡ d.held
+  held_used : take (length d.held) (over d.held lists.held) ≡ d.held
   held_used = take_over d.held [] lists.held
+
+  -- so that the checks of both say the same
+  pub checks_used : used_checks (loaded_of d) (with_day d lists) ≡ card_checks d
+  checks_used = λ i. refused_at BadCard (first_unfit (cards_used i) (held_used i)) ∷ []
 
 -- zeros depend on the lengths alone
 pub zeros_long : (lists : Contents) → lengths_of (zeros lists) ≡ lengths_of lists

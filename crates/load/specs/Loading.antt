@@ -16,7 +16,7 @@ abbrev pub wanted : Lengths
 wanted = record { families = 2; baskets = 4; months = 8; lines = 16; prices = 1785; held = 16; orders = 2000 }
 
 -- 5: a list of another length than is wanted
-abbrev other : ℕ → ℕ → Option Refusal
+abbrev pub other : ℕ → ℕ → Option Refusal
 other n wants = unless (n == wants) (WrongLength wants)
 
 abbrev pub list_checks : Lengths → List (Option Refusal)

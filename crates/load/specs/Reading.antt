@@ -13,8 +13,10 @@ use Rattle.forms.specs.Reads.{Told, then, given, form_in, list_on}
 use Rattle.forms.specs.Rows.{rows_in}
 use Rattle.kinds.specs.Formats.{Format, grid_format, family_format, basket_format, month_format, future_format, option_format, cash_format, held_format, order_format}
 use Rattle.kinds.specs.declared.Order.{Order}
+use Rattle.forms.specs.declared.reader.Reader.{Reader}
 use Rattle.load.specs.declared.lists.Lengths.{Lengths}
-use Rattle.load.specs.Days.{Day, Contents}
+use Rattle.load.specs.declared.lists.Lists.{Lists}
+use Rattle.load.specs.Days.{Day, Contents, contents_of, lengths_of}
 
 -- the forms of a kind that follow one another, at least one: a missing one is refused where it should stand
 unfoldable pub some_in : {R : Type 0} → List ℕ → List Asked → R → (ℕ → R → ℕ → ℤ → R) → List ℕ → ℕ → ℕ → Told (List R)
@@ -122,3 +124,9 @@ with_day day c =
 abbrev pub Read : {X N : Type 0} → (X → N) → (X → Contents → Contents) → Told X → Result N Refusal → ℕ → Contents → Contents → Type 0
 Read counts with (Ok x) r at before after = (r ≡ Ok (counts x.0)) × (at ≡ x.1) × (after ≡ with x.0 before)
 Read counts with (Err e) r at before after = r ≡ Err e
+
+-- the same of a step that reads a part of the file: the reader goes on in the same text, and the lists keep their lengths
+pub record ReadsInto {X N : Type 0} (counts : X → N) (with : X → Contents → Contents) (part : Lengths → List ℕ → ℕ → Told X) (before after : Reader) (lists filled : Lists) (result : Result N Refusal) : Type 0 where
+  pub answer : Read counts with (part (lengths_of (contents_of lists)) before.text.now before.at) result after.at (contents_of lists) (contents_of filled)
+  pub long : lengths_of (contents_of filled) ≡ lengths_of (contents_of lists)
+  pub same : after.text.now ≡ before.text.now

@@ -1,10 +1,9 @@
 // The checks before and behind the reading of forms.
-ghost use Rattle.std.specs.Prelude.{◌≡◌, ◌+◌, take};
-ghost use Rattle.deck.specs.Judgements.{first_unfit};
+ghost use Rattle.std.specs.Prelude.{◌≡◌, [], ◌∷◌};
 ghost use Rattle.terms.specs.Checks.{decided};
 ghost use Rattle.load.specs.Days.{contents_of};
-ghost use Rattle.load.specs.Loading.{list_checks, text_checks};
-ghost use Rattle.load.specs.Used.{Inside, used_cards};
+ghost use Rattle.load.specs.Loading.{other, list_checks, text_checks};
+ghost use Rattle.load.specs.Used.{Inside, used_checks};
 
 use crate::lists::{BASKETS, FAMILIES, HELD, LINES, Lengths, Lists, MONTHS, ORDERS, PRICES};
 use crate::loading::Loaded;
@@ -15,32 +14,28 @@ use text::shape::malformed;
 // A text may have so many bytes.
 const MOST_BYTES: usize = 65_536;
 
+// Whether a list has the length that is wanted.
+fn fits(given: usize, wanted: usize) -> Result<(), Refusal>
+    ensures { result ≡ decided (other given wanted ∷ []) tt }
+{
+    if given == wanted {
+        Ok(())
+    } else {
+        Err(Refusal::WrongLength(wanted))
+    }
+}
+
 // Whether every list has the length that is wanted.
 pub(crate) fn lists_fit(given: Lengths) -> Result<(), Refusal>
     ensures { result ≡ decided (list_checks given) tt }
 {
-    if given.families != FAMILIES {
-        return Err(Refusal::WrongLength(FAMILIES));
-    }
-    if given.baskets != BASKETS {
-        return Err(Refusal::WrongLength(BASKETS));
-    }
-    if given.months != MONTHS {
-        return Err(Refusal::WrongLength(MONTHS));
-    }
-    if given.lines != LINES {
-        return Err(Refusal::WrongLength(LINES));
-    }
-    if given.prices != PRICES {
-        return Err(Refusal::WrongLength(PRICES));
-    }
-    if given.held != HELD {
-        return Err(Refusal::WrongLength(HELD));
-    }
-    if given.orders != ORDERS {
-        return Err(Refusal::WrongLength(ORDERS));
-    }
-    Ok(())
+    fits(given.families, FAMILIES)?;
+    fits(given.baskets, BASKETS)?;
+    fits(given.months, MONTHS)?;
+    fits(given.lines, LINES)?;
+    fits(given.prices, PRICES)?;
+    fits(given.held, HELD)?;
+    fits(given.orders, ORDERS)
 }
 
 // Whether the text is short enough and well formed.
@@ -50,23 +45,26 @@ pub(crate) fn text_fits(text: &[u8]) -> Result<(), Refusal>
     if text.len() > MOST_BYTES {
         return Err(Refusal::WrongLength(MOST_BYTES));
     }
-    match malformed(text) {
-        Some(byte) => Err(Refusal::Malformed(byte)),
-        None => Ok(()),
+    if let Some(byte) = malformed(text) {
+        return Err(Refusal::Malformed(byte));
     }
+    Ok(())
 }
 
-// The place of the first card or held record that does not fit, among those in use.
-pub(crate) fn unfit(used: &Loaded, lists: &Lists) -> Option<usize>
+// Whether the cards and held records in use fit together.
+pub(crate) fn cards_fit(used: &Loaded, lists: &Lists) -> Result<(), Refusal>
     requires { Inside used.now (contents_of lists.now) }
-    ensures { result ≡ first_unfit (used_cards used.now (contents_of lists.now)) (take used.now.held (contents_of lists.now).held) }
+    ensures { result ≡ decided (used_checks used.now (contents_of lists.now)) tt }
 {
     let given = Given {
-        families: &lists.families[0..used.families],
-        baskets: &lists.baskets[0..used.baskets],
-        months: &lists.months[0..used.months],
-        lines: &lists.lines[0..used.futures + used.options],
+        families: &lists.families[..used.families],
+        baskets: &lists.baskets[..used.baskets],
+        months: &lists.months[..used.months],
+        lines: &lists.lines[..used.futures + used.options],
         futures: used.futures,
     };
-    given.first_unfit(&lists.held[0..used.held])
+    if let Some(place) = given.first_unfit(&lists.held[..used.held]) {
+        return Err(Refusal::BadCard(place));
+    }
+    Ok(())
 }

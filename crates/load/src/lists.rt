@@ -1,8 +1,7 @@
 // The lists that a caller lends for a session file to be read into.
-ghost use Rattle.std.specs.Prelude.{◌≡◌, length, replicate};
+ghost use Rattle.std.specs.Prelude.{◌≡◌};
 ghost use Rattle.load.specs.Days.{contents_of, lengths_of, zeros};
 
-use forms::kind::Kind;
 use kinds::Order;
 use terms::cards::{Basket, Family, Held, Line, Month};
 
@@ -65,20 +64,12 @@ impl Lists<'_> {
     pub(crate) fn clear(&mut self)
         ensures { contents_of self.new ≡ zeros (contents_of self.old) }
     {
-        wipe(self.families, <kinds::FamilyForm as Kind>::blank());
-        wipe(self.baskets, <kinds::BasketForm as Kind>::blank());
-        wipe(self.months, <kinds::MonthForm as Kind>::blank());
-        wipe(self.lines, <kinds::FutureForm as Kind>::blank());
-        wipe(self.prices, 0);
-        wipe(self.held, <kinds::HeldForm as Kind>::blank());
-        wipe(self.orders, <kinds::OrderForm as Kind>::blank());
-    }
-}
-
-fn wipe<T: Copy>(list: &mut [T], zero: T)
-    ensures { list.new ≡ replicate (length list.old) zero }
-{
-    for record in list.iter_mut() {
-        *record = zero;
+        self.families.fill(Family::default());
+        self.baskets.fill(Basket::default());
+        self.months.fill(Month::default());
+        self.lines.fill(Line::default());
+        self.prices.fill(0);
+        self.held.fill(Held::default());
+        self.orders.fill(Order::default());
     }
 }

@@ -5,13 +5,14 @@ ghost use Rattle.load.specs.Loading.{loading, answer_of, held_by, Kept};
 ghost use Rattle.load.specs.Sessions.{LoadsDays, NamesTheFault, FaultsOfForms};
 ghost use Rattle.load.specs.Used.{Inside};
 
-use crate::checks::{lists_fit, text_fits, unfit};
+use crate::checks::{cards_fit, lists_fit, text_fits};
 use crate::lists::Lists;
 use crate::reading::day;
 use terms::half::Half;
 use terms::refusal::Refusal;
 
-// What a session file says besides its lists: how many records of each are in use.
+// What a session file says besides its lists: how many records of each are in use. The lists are the caller's, since nothing is
+// allocated here, so that their counts stand beside them.
 #[derive(Clone, Copy, PartialEq, Eq, Debug)]
 pub struct Loaded {
     pub half: Half,
@@ -53,8 +54,6 @@ fn filled(text: &[u8], lists: &mut Lists) -> Result<Loaded, Refusal>
     lists_fit(lists.lengths())?;
     text_fits(text)?;
     let loaded = day(text, lists)?;
-    match unfit(&loaded, lists) {
-        Some(place) => Err(Refusal::BadCard(place)),
-        None => Ok(loaded),
-    }
+    cards_fit(&loaded, lists)?;
+    Ok(loaded)
 }

@@ -25,24 +25,16 @@ pub fn answer(text: &[u8]) -> Result<Loaded, Refusal> {
 
 // Whether a text is accepted, or why not.
 pub fn told(text: &[u8]) -> Result<(), Refusal> {
-    match answer(text) {
-        Ok(_) => Ok(()),
-        Err(why) => Err(why),
-    }
+    answer(text).map(|_| ())
 }
 
 // The text with the first `old` in it replaced.
 pub fn changed(heap: Global, text: &str, old: &str, new: &str) -> Result<String, Fail> {
     let (front, back) = text.split_once(old).ok_or("nothing to change")?;
-    let mut made = String::from_str(heap, front)?;
-    made.push_str(new)?;
-    made.push_str(back)?;
-    Ok(made)
+    Ok(format!(in heap; "{front}{new}{back}")?)
 }
 
 // The text with more behind it.
 pub fn joined(heap: Global, text: &str, more: &str) -> Result<String, Fail> {
-    let mut made = String::from_str(heap, text)?;
-    made.push_str(more)?;
-    Ok(made)
+    Ok(format!(in heap; "{text}{more}")?)
 }

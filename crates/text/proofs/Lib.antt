@@ -3,7 +3,6 @@ pub mod Fronts
 pub mod Decimal
 pub mod Reading
 pub mod Readback
-pub mod Walks
 pub mod After
 pub mod Printed
 pub mod Parsed

@@ -89,9 +89,6 @@ module _ (d : ℕ) (bs : List ℕ) (v k : ℕ) (first : is_in_range 49 57 d ≡ 
         long = omega (arith, r.long);
       }
 
-  natural_from : (n : ℤ) (m : ℕ) → n ≡ pos v → m ≡ k → Begins n m (d ∷ bs)
-  natural_from n m e f = rw (e, f) natural_begins
-
 pub zero_writes : Writes (pos 0) (48 ∷ [])
 zero_writes = (record { some = omega arith; most = omega arith; digits = refl; leading = λ _. refl }, refl)
 

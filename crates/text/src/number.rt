@@ -6,7 +6,7 @@ ghost use Rattle.text.specs.Numbers.{digits_on, zero_at, natural_at, negative_at
 use terms::refusal::Refusal;
 
 // The most digits that a number may have.
-const MOST: usize = 15;
+pub(crate) const MOST: usize = 15;
 
 // The number at the front of a text, and how many bytes it takes. It ends before the first byte that is no digit.
 // Where no number stands there, it is refused at the first byte, or the end, that cannot continue.
@@ -17,12 +17,6 @@ pub fn number(text: &[u8]) -> Result<(i64, usize), Refusal>
     ensures reads { ReadsWritings }
     ensures fronts { ReadsFronts }
     ensures refuses { RefusesWhere }
-{
-    signed(text)
-}
-
-fn signed(text: &[u8]) -> Result<(i64, usize), Refusal>
-    ensures { result ≡ number_at text.now }
 {
     match text {
         [b'-', first, rest @ ..] => negative(*first, rest),
@@ -37,10 +31,9 @@ fn negative(first: u8, rest: &[u8]) -> Result<(i64, usize), Refusal>
     ensures { result ≡ negative_at first rest.now }
 {
     match first {
-        b'1'..=b'9' => match digits_on(first, rest) {
-            Ok((size, count)) => Ok((-(size as i64), count + 1)),
-            Err(past) => Err(Refusal::Malformed(past + 1)),
-        },
+        b'1'..=b'9' => digits_on(first, rest)
+            .map(|(size, count)| (-(size as i64), count + 1))
+            .map_err(|past| Refusal::Malformed(past + 1)),
         _ => Err(Refusal::Malformed(1)),
     }
 }
@@ -50,10 +43,9 @@ fn natural(first: u8, rest: &[u8]) -> Result<(i64, usize), Refusal>
     ensures { result ≡ natural_at first rest.now }
 {
     match first {
-        b'1'..=b'9' => match digits_on(first, rest) {
-            Ok((size, count)) => Ok((size as i64, count)),
-            Err(past) => Err(Refusal::Malformed(past)),
-        },
+        b'1'..=b'9' => digits_on(first, rest)
+            .map(|(size, count)| (size as i64, count))
+            .map_err(Refusal::Malformed),
         b'0' => zero(rest),
         _ => Err(Refusal::Malformed(0)),
     }
@@ -77,17 +69,16 @@ fn digits_on(first: u8, rest: &[u8]) -> Result<(u64, usize), usize>
     ensures small { IfOk result (λ v. (v.0 < 10 ^ 15) × (v.1 ≤ 15)) }
     ensures place { IfErr result (λ p. p ≤ 15) }
 {
-    let mut value = (first - b'0') as u64;
-    let mut count = 1;
-    for byte in rest {
+    let mut value = u64::from(first - b'0');
+    for (index, byte) in rest.iter().enumerate() {
+        let count = index + 1;
         if !byte.is_ascii_digit() {
             return Ok((value, count));
         }
         if count == MOST {
             return Err(count);
         }
-        value = 10 * value + (*byte - b'0') as u64;
-        count += 1;
+        value = 10 * value + u64::from(*byte - b'0');
     }
-    Ok((value, count))
+    Ok((value, rest.len() + 1))
 }

@@ -1,15 +1,13 @@
-use Rattle.std.proofs.Common.{ℕ, [], ◌∷◌, take, Option, sym, refl, ap, ◌∙◌, subst, arith}
+use Rattle.std.proofs.Common.{sym, refl, ap, ◌∙◌, subst, arith}
 use Rattle.std.proofs.lemmas.Result.{err_from_is_err_and}
-use Rattle.terms.specs.Checks.{refused_at, decided}
-use Rattle.terms.specs.declared.refusal.Refusal.TheVariants.{BadCard}
-use Rattle.deck.specs.Judgements.{first_unfit}
+use Rattle.terms.specs.Checks.{decided}
 use Rattle.load.specs.declared.lists.Lengths.{Lengths}
 use Rattle.load.specs.declared.loading.Loaded.{Loaded}
 use Rattle.load.specs.Days.{Contents, contents_of, lengths_of}
 use Rattle.load.specs.Reading.{with_day}
-use Rattle.load.specs.Loading.{list_checks}
-use Rattle.load.specs.Used.{Inside, used_cards}
-use Rattle.load.proofs.Whole.{lengths_are, refused_lists, refused_text, refused_day, judged_day, kept_yes, kept_no, keeps, keeps_no, in_use, cards_used, held_used}
+use Rattle.load.specs.Loading.{list_checks, card_checks}
+use Rattle.load.specs.Used.{Inside, used_checks}
+use Rattle.load.proofs.Whole.{lengths_are, refused_lists, refused_text, refused_day, judged_day, kept_yes, kept_no, keeps, keeps_no, in_use, checks_used, decided_yes, decided_no}
 use Rattle.load.proofs.loading.filled.Goals as goal
 
 pub day-requires : goal.day-requires
@@ -18,8 +16,8 @@ day-requires c =
     let lines = ap (λ (l : Lengths). l.lines) (sym c.lengths.ensures ∙ known) in
     omega (arith, lines)
 
-pub unfit-requires : goal.unfit-requires
-unfit-requires c =
+pub cards_fit-requires : goal.cards_fit-requires
+cards_fit-requires c =
     let day = kept_yes _ _ _ _ c.in_ok-loaded.ensures.kept in
     subst (λ (l : Contents). Inside c.in_ok-loaded.loaded l) (sym day.3) (subst (λ (u : Loaded). Inside u (with_day day.0 (contents_of c.args.lists.now))) (sym day.2) (in_use day.0 (contents_of c.args.lists.now)))
 
@@ -50,22 +48,25 @@ returns-in_err-loaded c =
     let lists = c.in_ok-lists_fit.ensures ∙ ap (λ l. decided {X = Unit {0}} (list_checks l) tt) c.lengths.ensures in
     rw (p.1, p.2) (record { kept = keeps_no before (contents_of c.day.new.lists) _ _ (refused_day given text lists c.in_ok-text_fits.ensures _ (kept_no _ _ _ _ c.in_err-loaded.ensures.kept)); long = c.in_err-loaded.ensures.long })
 
-pub returns-in-Some : goal.returns-in-Some
-returns-in-Some c =
+pub returns-in_err-cards_fit : goal.returns-in_err-cards_fit
+returns-in_err-cards_fit c =
     let before = contents_of c.args.lists.now in
     let given = lengths_of before in
     let text = c.args.text.now in
+    let p = err_from_is_err_and c.from_residual-in_err-cards_fit.result c.from_residual-in_err-cards_fit.ensures.1 in
     let lists = c.in_ok-lists_fit.ensures ∙ ap (λ l. decided {X = Unit {0}} (list_checks l) tt) c.lengths.ensures in
     let day = kept_yes _ _ _ _ c.in_ok-loaded.ensures.kept in
-    let unfit = c.in-Some.ensures ∙ (λ i. first_unfit (used_cards (day.2 i) (day.3 i)) (take (day.2 i).held (day.3 i).held)) ∙ (λ i. first_unfit (cards_used day.0 before i) (held_used day.0 before i)) in
-    record { kept = keeps_no before (contents_of c.day.new.lists) _ _ (ap (λ (o : Option ℕ). decided (refused_at BadCard o ∷ []) day.0) unfit ∙ judged_day given text lists c.in_ok-text_fits.ensures day.0 day.1); long = c.in_ok-loaded.ensures.long }
+    let checks = (λ i. used_checks (day.2 i) (day.3 i)) ∙ checks_used day.0 before in
+    let unfit = c.in_err-cards_fit.ensures ∙ ap (λ l. decided {X = Unit {0}} l tt) checks in
+    rw (p.1, p.2) (record { kept = keeps_no before (contents_of c.day.new.lists) _ _ (decided_no (card_checks day.0) day.0 _ unfit ∙ judged_day given text lists c.in_ok-text_fits.ensures day.0 day.1); long = c.in_ok-loaded.ensures.long })
 
-pub returns-in-None : goal.returns-in-None
-returns-in-None c =
+pub returns : goal.returns
+returns c =
     let before = contents_of c.args.lists.now in
     let given = lengths_of before in
     let text = c.args.text.now in
     let lists = c.in_ok-lists_fit.ensures ∙ ap (λ l. decided {X = Unit {0}} (list_checks l) tt) c.lengths.ensures in
     let day = kept_yes _ _ _ _ c.in_ok-loaded.ensures.kept in
-    let unfit = c.in-None.ensures ∙ (λ i. first_unfit (used_cards (day.2 i) (day.3 i)) (take (day.2 i).held (day.3 i).held)) ∙ (λ i. first_unfit (cards_used day.0 before i) (held_used day.0 before i)) in
-    record { kept = keeps before (contents_of c.day.new.lists) _ day.0 _ (ap (λ (o : Option ℕ). decided (refused_at BadCard o ∷ []) day.0) unfit ∙ judged_day given text lists c.in_ok-text_fits.ensures day.0 day.1) day.2 day.3; long = c.in_ok-loaded.ensures.long }
+    let checks = (λ i. used_checks (day.2 i) (day.3 i)) ∙ checks_used day.0 before in
+    let fit = c.in_ok-cards_fit.ensures ∙ ap (λ l. decided {X = Unit {0}} l tt) checks in
+    record { kept = keeps before (contents_of c.day.new.lists) _ day.0 _ (decided_yes (card_checks day.0) day.0 fit ∙ judged_day given text lists c.in_ok-text_fits.ensures day.0 day.1) day.2 day.3; long = c.in_ok-loaded.ensures.long }

@@ -1,6 +1,6 @@
 use Rattle.std.proofs.Common.{◌≡◌, ◌-◌, ◌≤◌, [], length, take, drop}
 use Rattle.forms.specs.Rows.{rows_in}
-use Rattle.forms.proofs.reader.Reader.all_rows.Given as goal
+use Rattle.forms.proofs.reader.Reader.rows.Given as goal
 
 abbrev pub invariant-loop-index : goal.invariant-loop-index
 invariant-loop-index l =
