@@ -50,16 +50,6 @@ after_at d number event [] i h = absurd (let k = h.inside in omega arith)
 after_at d number event (o ∷ os) zero h = ap (λ (this : Bool). elim this [ true ↦ kept (order_after event o) os | false ↦ o ∷ orders_after number event os ]) h.here
 after_at d number event (o ∷ os) (suc i) h = ap (λ (this : Bool). elim this [ true ↦ kept (order_after event o) os | false ↦ o ∷ orders_after number event os ]) (h.none_before 0 (omega arith)) ∙ ap (λ (rest : List Order). o ∷ rest) (after_at d number event os i (later d number o os i h))
 
--- an order that is not gone is changed in its place
-pub after_kept : (d : Order) (number : ℤ) (event : Event) (orders : List Order) (i : ℕ) → FirstAt d number orders i → is_gone (order_after event (get_or orders i d)).state ≡ false → orders_after number event orders ≡ set orders i (order_after event (get_or orders i d))
-unfolding kept
-after_kept d number event orders i h e = after_at d number event orders i h ∙ ap (λ (gone : Bool). take i orders ++ elim gone [ true ↦ drop (suc i) orders | false ↦ order_after event (get_or orders i d) ∷ drop (suc i) orders ]) e ∙ sym (set_split orders i (order_after event (get_or orders i d)) h.inside)
-
--- a gone order leaves its place
-pub after_gone : (d : Order) (number : ℤ) (event : Event) (orders : List Order) (i : ℕ) → FirstAt d number orders i → is_gone (order_after event (get_or orders i d)).state ≡ true → orders_after number event orders ≡ remove orders i
-unfolding kept
-after_gone d number event orders i h e = after_at d number event orders i h ∙ ap (λ (gone : Bool). take i orders ++ elim gone [ true ↦ drop (suc i) orders | false ↦ order_after event (get_or orders i d) ∷ drop (suc i) orders ]) e
-
 -- the states' own test
 pub gone_is : (state : OrderState) → sameb the_type state Gone ≡ is_gone state
 unfolding is_gone

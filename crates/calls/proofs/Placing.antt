@@ -36,9 +36,6 @@ module _ (s : State) (b : InBounds s) (line : ℕ) (quantity limit : ℤ) (h : N
   pub few_contracts : nat_abs quantity ≤ 10000
   few_contracts = (contracts_fit (nat_abs quantity) (passed _ BadQuantity h.1.0)).1
 
-  pub room_for_one : length s.orders < 32
-  room_for_one = ltb-true _ _ (passed _ OrdersFull h.1.1.1.0)
-
 -- numbers run no further than contracts are accepted
 summed_few : (xs : List ℕ) (most : ℕ) → ((i : ℕ) → i < length xs → get_or xs i 0 ≤ most) → summed xs ≤ length xs * most
 unfolding summed
