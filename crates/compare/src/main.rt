@@ -11,6 +11,7 @@ use std::io::Read;
 use std::str;
 use terms::fault::Fault;
 
+// More than any caller has; a bound on the cases shows that the loop over them ends.
 const MOST_CASES: usize = 1_000_000;
 
 // What is left of the cases.
@@ -22,17 +23,18 @@ struct Cases<'a> {
 impl<'a> Cases<'a> {
     // So many bytes.
     fn part(&mut self, length: usize) -> anyhow::Result<&'a [u8]> {
-        if length > self.rest.len() {
-            return Err(anyhow!("a case is cut off"));
-        }
-        let (part, rest) = self.rest.split_at(length);
+        let (part, rest) = self
+            .rest
+            .split_at_checked(length)
+            .ok_or_else(|| anyhow!("a case is cut off"))?;
         self.rest = rest;
         Ok(part)
     }
 
     // A line, without its end.
     fn line(&mut self) -> anyhow::Result<&'a [u8]> {
-        let line = self.part(end_of_line(self.rest))?;
+        let end = self.rest.iter().position(|byte| *byte == b'\n');
+        let line = self.part(end.unwrap_or(self.rest.len()))?;
         self.part(1)?;
         Ok(line)
     }
@@ -40,21 +42,9 @@ impl<'a> Cases<'a> {
     // A length in digits.
     fn length(&mut self) -> anyhow::Result<usize> {
         let line = self.line()?;
-        match str::from_utf8(line) {
-            Ok(digits) => Ok(digits.parse::<usize>()?),
-            Err(_) => Err(anyhow!("a length is no text")),
-        }
+        let digits = str::from_utf8(line).map_err(|_| anyhow!("a length is no text"))?;
+        Ok(digits.parse()?)
     }
-}
-
-// How many bytes stand before the end of the line.
-fn end_of_line(bytes: &[u8]) -> usize {
-    for (place, byte) in bytes.iter().enumerate() {
-        if *byte == b'\n' {
-            return place;
-        }
-    }
-    bytes.len()
 }
 
 fn main(rt: HostRuntime) -> anyhow::Result<()> {
