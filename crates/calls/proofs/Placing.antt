@@ -5,7 +5,7 @@ use Rattle.std.proofs.lemmas.Int.{ints}
 use Rattle.std.proofs.lemmas.Bool.{and_parts, ltb-true, false≢true}
 use Rattle.terms.specs.Checks.{unless}
 use Rattle.terms.specs.declared.refusal.Refusal.{Refusal}
-use Rattle.terms.specs.declared.refusal.Refusal.TheVariants.{NoSuchLine, BadQuantity, OrdersFull, NetTooLarge, TooManyContracts, NotCovered}
+use Rattle.terms.specs.declared.refusal.Refusal.TheVariants.{NoSuchLine, BadQuantity, NetTooLarge, TooManyContracts, NotCovered}
 use Rattle.margin.specs.declared.book.Open.{Open}
 use Rattle.margin.specs.Book.{Book, named}
 use Rattle.margin.proofs.SumLaws.{at_most}

@@ -5,7 +5,7 @@ ghost use Rattle.terms.specs.declared.refusal.Refusal.TheVariants.{OrdersFull};
 ghost use Rattle.account.specs.declared.call.Call.TheVariants.{Place};
 ghost use Rattle.cells.specs.Books.{book_of as as_book};
 ghost use Rattle.account.specs.Account.{Numbered, quantity_fits, book_net_fits, bound_checks, checks, placed as placed_in, step};
-ghost use Rattle.calls.specs.Accounts.{state_of, told_as, margin_with, book_with, trial_checks, SmallOrders, judged};
+ghost use Rattle.calls.specs.Accounts.{state_of, told_as, margin_with, book_with, trial_checks, judged};
 
 use crate::accounts::Account;
 use crate::limits::{MOST_ACCEPTED, MOST_CONTRACTS, MOST_NET, MOST_ORDERS, MOST_PRICE};
@@ -63,19 +63,13 @@ impl<B: Bank> Account<B> {
         margin(&self.bank, &self.deck, book).amount <= self.collateral
     }
 
-    // Checks the order that stands at the end of these, by the book that they make.
-    fn check_trial<'a>(
-        &'a self,
-        orders: &'a [Open],
-        line: usize,
-        contracts: u64,
-    ) -> Result<(), Refusal>
-        requires orders { SmallOrders orders.now }
+    // Checks an order of so many contracts of a line by the book that it makes.
+    fn check_trial<'a>(&'a self, book: Book<'a>, line: usize, contracts: u64) -> Result<(), Refusal>
         requires line { line < length self.now.positions.items }
+        requires book { line < length book.positions.now }
         requires contracts { contracts ≤ 10000 }
-        ensures { result ≡ judged (trial_checks (state_of B.Bank.meaning self.now) (record { positions = self.now.positions.items; orders = orders.now }) line contracts) }
+        ensures { result ≡ judged (trial_checks (state_of B.Bank.meaning self.now) (as_book book.entry) line contracts) }
     {
-        let book = self.book_with(orders);
         if !net_fits(book, line) {
             return Err(Refusal::NetTooLarge);
         }
@@ -101,7 +95,8 @@ impl<B: Bank> Account<B> {
         }
         let mut trial = rests(self.orders.as_slice());
         trial[count] = order;
-        self.check_trial(&trial[..count + 1], order.line, order.left.unsigned_abs())
+        let book = self.book_with(&trial[..count + 1]);
+        self.check_trial(book, order.line, order.left.unsigned_abs())
     }
 
     // Checks an order.
