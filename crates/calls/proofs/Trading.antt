@@ -1,5 +1,5 @@
 -- Fills and cancels, from the order at a place to the step of a call.
-use Rattle.std.proofs.Common.{◌≡◌, ℕ, suc, ◌≤◌, Bool, true, List, [], ◌∷◌, ◌++◌, length, get_or, take, drop, set, ℤ, pos, nat_abs, Some, None, Ok, Err, Option, Result, sym, refl, ap, ◌∙◌, subst, ap₂, arith}
+use Rattle.std.proofs.Common.{◌≡◌, ℕ, suc, ◌<◌, ◌≤◌, Bool, true, List, [], ◌∷◌, ◌++◌, length, get_or, take, drop, set, ℤ, pos, nat_abs, Some, None, Ok, Err, Option, Result, sym, refl, ap, ◌∙◌, subst, ap₂, arith, w64, SFits, to_z, of_z}
 use Rattle.terms.specs.Checks.{unless}
 use Rattle.terms.specs.declared.refusal.Refusal.{Refusal}
 use Rattle.terms.specs.declared.refusal.Refusal.TheVariants.{BadQuantity, BadPrice, NoSuchOrder}
@@ -11,6 +11,7 @@ use Rattle.account.specs.declared.orders.Event.{Event}
 use Rattle.account.specs.declared.orders.Event.TheVariants.{Filled, Cancelled}
 use Rattle.account.specs.Orders.{signed, left_after, order_after, kept, found, orders_after}
 use Rattle.std.specs.Option.{ok_or}
+use Rattle.std.proofs.lemmas.List.{get_or_read}
 use Rattle.std.proofs.lemmas.Int.{ints}
 use Rattle.std.proofs.lemmas.Bool.{and_parts}
 use Rattle.margin.proofs.SumLaws.{at_most, ≤ℤ-trans}
@@ -24,6 +25,7 @@ use Rattle.account.specs.Runs.{NoneRefuses}
 use Rattle.account.proofs.Bounded.{found_has, cancel_bounded, fill_bounded}
 use Rattle.calls.specs.Accounts.{FirstAt, PlaceOf, MayMeet, none_open, judged}
 use Rattle.calls.proofs.Places.{found_at, after_at}
+use Rattle.calls.proofs.Signs.{handed}
 use Rattle.calls.proofs.Steps.{none_refuses, accepted}
 
 -- ---- checks
@@ -107,3 +109,20 @@ module _ (s : State) (number : ℤ) (place : ℕ) (first : FirstAt none_open num
 pub cancel_meets : (s : State) (number : ℤ) (r : Option ℕ) → PlaceOf number s.orders r → MayMeet s number (Cancel number) (ok_or r NoSuchOrder)
 cancel_meets s number None h = no_order_lem (found number s.orders) (λ o. []) h
 cancel_meets s number (Some place) h = (h, this_order (found number s.orders) (met s number place h) (λ o. []) (met_found s number place h))
+
+-- what a fill meets: the order at its place, which is in bounds, and a position
+pub record FillMeets (s : State) (number quantity price : ℤ) (place : ℕ) (o : Order) : Type 0 where
+  pub first : FirstAt none_open number s.orders place
+  pub passes : judged (checks s (Fill number quantity price)) ≡ Ok tt
+  pub order : OrderInBounds (length s.cards.lines) s.next (get_or s.orders place none_open)
+  pub is : o ≡ get_or s.orders place none_open
+  pub of_a_line : o.rest.line < length s.cards.lines
+  pub has_a_position : o.rest.line < length s.positions
+
+pub fill_meets : (s : State) → InBounds s → (number quantity price : ℤ) → SFits w64 number → SFits w64 quantity → SFits w64 price → (place : ℕ) (o : Order) → MayMeet s (to_z w64 (of_z w64 number)) (Fill (to_z w64 (of_z w64 number)) (to_z w64 (of_z w64 quantity)) (to_z w64 (of_z w64 price))) (Ok place) → o ≡ get_or s.orders place o → FillMeets s number quantity price place o
+fill_meets s b number quantity price f g h place o given read =
+    let may = handed (λ n q p. MayMeet s n (Fill n q p) (Ok place)) number quantity price f g h given in
+    let order = met_bounded s number place may.0 b in
+    let is = get_or_read s.orders place o may.0.inside read none_open in
+    let line = ap (λ (o : Order). o.rest.line) is in
+    record { first = may.0; passes = may.1; order = order; is = is; of_a_line = rw line order.of_a_line; has_a_position = rw (line, b.a_position_a_line) order.of_a_line }

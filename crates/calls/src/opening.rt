@@ -9,7 +9,7 @@ ghost use Rattle.calls.specs.Begun.{BeginOutcome, CoverOutcome, with_cards};
 
 use crate::accounts::Account;
 use crate::limits::{MOST_COLLATERAL, MOST_ORDERS};
-use crate::trades::paid;
+use crate::trades::Trade;
 use banks::bank::Bank;
 use deck::deck::Deck;
 use deck::given::Given;
@@ -25,9 +25,13 @@ fn held_at(holding: &Held) -> Position
     requires price { unsigned_abs holding.now.price ≤ 10000000 }
     ensures { result ≡ held_at holding.now }
 {
+    let trade = Trade {
+        contracts: holding.net,
+        price: holding.price,
+    };
     Position {
         net: holding.net,
-        cost: paid(holding.net, holding.price),
+        cost: trade.cost(),
     }
 }
 

@@ -50,27 +50,34 @@ fn in_grains(contracts: i64) -> i64
     80_000 * contracts
 }
 
-// What contracts cost at a price, in grains.
-pub(crate) fn paid(contracts: i64, price: i64) -> i64
-    requires contracts { unsigned_abs contracts ≤ 10000 }
-    requires price { unsigned_abs price ≤ 10000000 }
-    ensures value { result ≡ pos 80000 *ℤ contracts *ℤ price }
-    ensures size { unsigned_abs result ≤ 8000000000000000 }
-{
-    in_grains(contracts) * price
+// Contracts at a price in kopecks, those bought positive and those sold negative.
+#[derive(Clone, Copy)]
+pub(crate) struct Trade {
+    pub(crate) contracts: i64,
+    pub(crate) price: i64,
+    ghost few: { unsigned_abs contracts ≤ 10000 },
+    ghost fair: { unsigned_abs price ≤ 10000000 },
 }
 
-// A position after contracts at a price.
-fn moved(position: Position, contracts: i64, price: i64) -> Position
+impl Trade {
+    // What the contracts cost at the price, in grains.
+    pub(crate) fn cost(self) -> i64
+        ensures value { result ≡ pos 80000 *ℤ self.contracts *ℤ self.price }
+        ensures size { unsigned_abs result ≤ 8000000000000000 }
+    {
+        in_grains(self.contracts) * self.price
+    }
+}
+
+// A position after a trade.
+fn moved(position: Position, trade: Trade) -> Position
     requires net { unsigned_abs position.net ≤ 10000 }
     requires cost { unsigned_abs position.cost ≤ 24000000000000000 }
-    requires contracts { unsigned_abs contracts ≤ 10000 }
-    requires price { unsigned_abs price ≤ 10000000 }
-    ensures { result ≡ moved_by position contracts price }
+    ensures { result ≡ moved_by position trade.contracts trade.price }
 {
     Position {
-        net: position.net + contracts,
-        cost: position.cost + paid(contracts, price),
+        net: position.net + trade.contracts,
+        cost: position.cost + trade.cost(),
     }
 }
 
@@ -114,7 +121,8 @@ impl<B: Bank> Account<B> {
         let place = self.fillable(number, quantity, price)?;
         let order = self.orders[place].rest;
         let contracts = with_sign_of(order.left, quantity);
-        self.positions[order.line] = moved(self.positions[order.line], contracts, price);
+        let trade = Trade { contracts, price };
+        self.positions[order.line] = moved(self.positions[order.line], trade);
         Ok(meet_at(&mut self.orders, place, Event::Filled(quantity)))
     }
 }
