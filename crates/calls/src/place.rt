@@ -47,7 +47,8 @@ fn net_fits(book: Book, line: usize) -> bool
 }
 
 impl<B: Bank> Account<B> {
-    // Whether the line accepts so many contracts more.
+    // Whether the line accepts so many contracts more. That there is such a line is a fact of this account, which no type of the
+    // line alone could hold.
     fn count_fits(&self, line: usize, contracts: u64) -> bool
         requires line { line < length self.now.positions.items }
         requires contracts { contracts ≤ 10000 }

@@ -2,6 +2,7 @@
 ghost use Rattle.std.specs.Prelude.{◌≡◌, ◌≤◌, map, length, take, slice_index_or};
 ghost use Rattle.calls.specs.Accounts.{rest_of, none_open};
 
+use crate::limits::MOST_ORDERS;
 use account::orders::Order;
 use margin::book::Open;
 use std::array;
@@ -18,7 +19,7 @@ fn rest_at(orders: &[Order], place: usize) -> Open
 
 // What is left of each order, from the first place on. An array of the most that there may be, since no call after begin
 // allocates.
-pub(crate) fn rests(orders: &[Order]) -> [Open; 32]
+pub(crate) fn rests(orders: &[Order]) -> [Open; MOST_ORDERS]
     requires { length orders.now ≤ 32 }
     ensures long { length result ≡ 32 }
     ensures value { take (length orders.now) result ≡ map rest_of orders.now }
