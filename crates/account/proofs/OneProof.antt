@@ -4,7 +4,7 @@ use std.HLevel.{Π_prop}
 use native.Mathlib.Bridge.{le_prop}
 use base.Stored.{coded_ℕ}
 use denote.Struct.Props.{≡_prop, props}
-use Rattle.std.specs.List.{AllByRecursion}
+use Rattle.std.specs.List.{AllByRecursion-prop}
 use Rattle.banks.specs.Meanings.{Meaning}
 use Rattle.account.specs.declared.orders.Order.{Order}
 use Rattle.account.specs.Account.{State}
@@ -12,10 +12,6 @@ use Rattle.account.specs.Bounds.{OrderInBounds, Ascending, LineInBounds, InBound
 
 at_most_one : (a b : ℤ) → IsProp (a ≤ℤ b)
 at_most_one a b = hlevel props
-
-all_one : {X : Type 0} (P : X → Type 0) → ((x : X) → IsProp (P x)) → (xs : List X) → IsProp (AllByRecursion P xs)
-all_one P one [] p q = refl
-all_one P one (x ∷ xs) p q = λ i. (one x p.0 q.0 i, all_one P one xs p.1 q.1 i)
 
 order_one : (lines next : ℕ) (o : Order) → IsProp (OrderInBounds lines next o)
 order_one lines next o p q = λ i. record {
@@ -30,7 +26,7 @@ order_one lines next o p q = λ i. record {
 
 ascending_one : (orders : List Order) → IsProp (Ascending orders)
 ascending_one [] p q = refl
-ascending_one (o ∷ os) p q = λ i. (all_one _ (λ later. le_prop) os p.0 q.0 i, ascending_one os p.1 q.1 i)
+ascending_one (o ∷ os) p q = λ i. (AllByRecursion-prop _ (λ later. le_prop) os p.0 q.0 i, ascending_one os p.1 q.1 i)
 
 line_one : (s : State) (l : ℕ) → IsProp (LineInBounds s l)
 line_one s l p q = λ i. record {
@@ -45,7 +41,7 @@ in_bounds_one s p q = λ i. record {
   a_position_a_line = ≡_prop coded_ℕ _ _ p.a_position_a_line q.a_position_a_line i;
   a_count_a_line = ≡_prop coded_ℕ _ _ p.a_count_a_line q.a_count_a_line i;
   few_orders = le_prop p.few_orders q.few_orders i;
-  each_order = all_one _ (order_one _ _) s.orders p.each_order q.each_order i;
+  each_order = AllByRecursion-prop _ (order_one _ _) s.orders p.each_order q.each_order i;
   numbers_ascend = ascending_one s.orders p.numbers_ascend q.numbers_ascend i;
   each_line = Π_prop (λ l. Π_prop (λ less. line_one s l)) p.each_line q.each_line i;
   next_from_1 = le_prop p.next_from_1 q.next_from_1 i;

@@ -10,43 +10,31 @@ pub mod call;
 pub mod orders;
 
 // The margins of small accounts after their calls, as the definitions give them.
-pub fn figures_hold() -> u8
+pub fn figures_hold()
     ensures { Figures }
-{
-    0
-}
+{}
 
 // What calls are told at both sides of their bounds, as the definitions give it.
-pub fn refusals_hold() -> u8
+pub fn refusals_hold()
     ensures { RefusedCalls }
-{
-    0
-}
+{}
 
 // A call is accepted exactly when none of its refusals applies, and the first that applies is told; a refused call, and margin, change nothing.
-pub fn calls_are_judged() -> u8
+pub fn calls_are_judged()
     ensures { CallLaws }
-{
-    0
-}
+{}
 
 // After any string of calls the margin is the least amount that covers every world, the collateral suffices for it, and fills and cancels never raise it.
-pub fn safe_after_any_calls() -> u8
+pub fn safe_after_any_calls()
     ensures { SafeAfterAnyCalls }
-{
-    0
-}
+{}
 
 // After any string of calls every number of the account lies within a bound that no call can pass.
-pub fn bounded_after_any_calls() -> u8
+pub fn bounded_after_any_calls()
     ensures { BoundedAfterAnyCalls }
-{
-    0
-}
+{}
 
 // Within these bounds the net, the cost and the open orders of each line are small enough for the sums of a margin.
-pub fn in_bounds_is_small() -> u8
+pub fn in_bounds_is_small()
     ensures { InBoundsIsSmall }
-{
-    0
-}
+{}

@@ -1,15 +1,13 @@
 -- Copying a part of each item of a list into the front of another list, place by place.
-use Rattle.std.proofs.Common.{◌≡◌, ℕ, zero, suc, ◌+◌, ◌<◌, List, [], ◌∷◌, ◌++◌, map, length, get_or, take, drop, set, sym, refl, ap, ◌∙◌, subst, arith}
+use Rattle.std.proofs.Common.{◌≡◌, ℕ, zero, suc, ◌+◌, ◌<◌, ◌≤◌, List, [], ◌∷◌, ◌++◌, map, length, get_or, take, drop, set, sym, refl, ap, ◌∙◌, subst, arith}
 use Rattle.std.proofs.lemmas.List.{append_assoc, length-append, length-take-le, set_split, take_at}
 
-pub one_copied : {X Y : Type 0} (part : X → Y) (to : List Y) (from : List X) (i : ℕ) (d : X) → i < length to → i < length from → take i to ≡ take i (map part from) → take (suc i) (set to i (part (get_or from i d))) ≡ take (suc i) (map part from)
-one_copied part [] from i d h k same = absurd (omega arith)
-one_copied part (t ∷ ts) [] i d h k same = absurd (omega arith)
-one_copied part (t ∷ ts) (f ∷ fs) zero d h k same = refl
-one_copied part (t ∷ ts) (f ∷ fs) (suc i) d h k same =
-    let heads : t ≡ part f = cc in
-    let tails : take i ts ≡ take i (map part fs) = cc in
-    let later : take (suc i) (set ts i (part (get_or fs i d))) ≡ take (suc i) (map part fs) = one_copied part ts fs i d (omega arith) (omega arith) tails in
+pub copied : {X Y : Type 0} (part : X → Y) (to : List Y) (from : List X) (d : X) (e : Y) → length from ≤ length to → ((i : ℕ) → i < length from → get_or to i e ≡ part (get_or from i d)) → take (length from) to ≡ map part from
+copied part to [] d e long here = refl
+copied part [] (f ∷ fs) d e long here = absurd (omega arith)
+copied part (t ∷ ts) (f ∷ fs) d e long here =
+    let head : t ≡ part f = here 0 (omega arith) in
+    let later : take (length fs) ts ≡ map part fs = copied part ts fs d e (omega arith) (λ i less. here (suc i) (omega arith)) in
     cc
 
 -- a front of as many places as a list that is lent

@@ -1,11 +1,11 @@
 -- What the checks say of an order that they let pass, and how far numbers run.
-use Rattle.std.proofs.Common.{◌≡◌, ℕ, suc, ◌+◌, ◌*◌, ◌<◌, ◌≤◌, Bool, true, leb, List, [], ◌∷◌, ◌++◌, length, get_or, set, ℤ, pos, negsuc, nat_abs, ◌≤ℤ◌, Some, None, Option, sym, refl, ap, ◌∙◌, suc-mul, arith}
+use Rattle.std.proofs.Common.{◌≡◌, ℕ, suc, ◌+◌, ◌*◌, ◌<◌, ◌≤◌, Bool, true, leb, List, [], ◌∷◌, ◌++◌, length, get_or, set, ℤ, pos, negsuc, nat_abs, ◌≤ℤ◌, Some, None, Ok, Option, sym, refl, ap, ◌∙◌, suc-mul, arith}
 use Rattle.std.proofs.lemmas.List.{get_or-set_same, map-append}
 use Rattle.std.proofs.lemmas.Int.{ints}
 use Rattle.std.proofs.lemmas.Bool.{and_parts, ltb-true, false≢true}
 use Rattle.terms.specs.Checks.{unless}
 use Rattle.terms.specs.declared.refusal.Refusal.{Refusal}
-use Rattle.terms.specs.declared.refusal.Refusal.TheVariants.{NoSuchLine, BadQuantity, OrdersFull, NetTooLarge, TooManyContracts, NotCovered}
+use Rattle.terms.specs.declared.refusal.Refusal.TheVariants.{NoSuchLine, BadQuantity, NetTooLarge, TooManyContracts, NotCovered}
 use Rattle.margin.specs.declared.book.Open.{Open}
 use Rattle.margin.specs.Book.{Book, named}
 use Rattle.margin.proofs.SumLaws.{at_most}
@@ -14,7 +14,7 @@ use Rattle.account.specs.declared.orders.Order.{Order}
 use Rattle.account.specs.declared.orders.OrderState.TheVariants.{Untouched}
 use Rattle.account.specs.Account.{State, book_of, bound_checks, quantity_fits, price_fits, book_net_fits, covered, new_order, placed}
 use Rattle.calls.specs.States.{state_with}
-use Rattle.calls.specs.Accounts.{rest_of, first_of, book_with, trial_checks}
+use Rattle.calls.specs.Accounts.{rest_of, book_with, trial_checks, judged}
 use Rattle.account.specs.Bounds.{InBounds, summed}
 use Rattle.account.specs.Runs.{NoneRefuses}
 use Rattle.account.proofs.Checked.{passed}
@@ -35,9 +35,6 @@ module _ (s : State) (b : InBounds s) (line : ℕ) (quantity limit : ℤ) (h : N
 
   pub few_contracts : nat_abs quantity ≤ 10000
   few_contracts = (contracts_fit (nat_abs quantity) (passed _ BadQuantity h.1.0)).1
-
-  pub room_for_one : length s.orders < 32
-  room_for_one = ltb-true _ _ (passed _ OrdersFull h.1.1.1.0)
 
 -- numbers run no further than contracts are accepted
 summed_few : (xs : List ℕ) (most : ℕ) → ((i : ℕ) → i < length xs → get_or xs i 0 ≤ most) → summed xs ≤ length xs * most
@@ -63,7 +60,7 @@ numbered_back : (count : ℕ) (line : ℤ) → name_fits count line ≡ true →
 numbered_back count (pos n) e = refl
 numbered_back count (negsuc n) e = absurd (false≢true e)
 
-pub front_none : (first later : List (Option Refusal)) → first_of (first ++ later) ≡ None → first_of first ≡ None
+pub front_none : (first later : List (Option Refusal)) → judged (first ++ later) ≡ Ok tt → judged first ≡ Ok tt
 front_none [] later e = refl
 front_none (None ∷ first) later e = front_none first later e
 front_none (Some why ∷ first) later e = e
@@ -78,8 +75,12 @@ asked_is count line quantity limit order has e = e ∙ ap (λ (n : ℕ). numbere
     numbered : ℕ → Open
     numbered n = record { line = n; left = quantity; limit = limit }
 
-pub three_pass : (a b c : Bool) (x y z : Refusal) (rest : List (Option Refusal)) → a ≡ true → b ≡ true → c ≡ true → first_of rest ≡ first_of (unless a x ∷ unless b y ∷ unless c z ∷ rest)
+pub three_pass : (a b c : Bool) (x y z : Refusal) (rest : List (Option Refusal)) → a ≡ true → b ≡ true → c ≡ true → judged rest ≡ judged (unless a x ∷ unless b y ∷ unless c z ∷ rest)
 three_pass a b c x y z rest e f g = rw (e, f, g) refl
+
+-- the checks of an order by the state in which it is placed
+abbrev pub book_checks : State → ℤ → ℤ → ℤ → List (Option Refusal)
+book_checks s line quantity limit = unless (book_net_fits (book_of (placed s line quantity limit)) (named line)) NetTooLarge ∷ unless (leb (get_or (placed s line quantity limit).accepted (named line) 0) 20000) TooManyContracts ∷ unless (covered (placed s line quantity limit)) NotCovered ∷ []
 
 module _ (s : State) (line quantity limit : ℤ) (inside : named line < length s.accepted) where
   abbrev on_trial : Open
@@ -92,7 +93,7 @@ module _ (s : State) (line quantity limit : ℤ) (inside : named line < length s
   trial_book : book_with s on_trial ≡ book_of (placed s line quantity limit)
   trial_book = ap (λ (os : List Open). of_orders os) (sym (map-append rest_of s.orders (new_order s line quantity limit ∷ [])))
 
-  pub trial_is : trial_checks s (book_with s on_trial) (named line) (nat_abs quantity) ≡ unless (book_net_fits (book_of (placed s line quantity limit)) (named line)) NetTooLarge ∷ unless (leb (get_or (placed s line quantity limit).accepted (named line) 0) 20000) TooManyContracts ∷ unless (covered (placed s line quantity limit)) NotCovered ∷ []
+  pub trial_is : trial_checks s (book_with s on_trial) (named line) (nat_abs quantity) ≡ book_checks s line quantity limit
   trial_is =
       ap (λ (book : Book). trial_checks s book (named line) (nat_abs quantity)) trial_book
       ∙ ap (λ (n : ℕ). unless (book_net_fits (book_of (placed s line quantity limit)) (named line)) NetTooLarge ∷ unless (leb n 20000) TooManyContracts ∷ unless (covered (placed s line quantity limit)) NotCovered ∷ []) (sym (get_or-set_same s.accepted (named line) (get_or s.accepted (named line) 0 + nat_abs quantity) 0 inside))

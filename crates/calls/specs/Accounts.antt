@@ -1,6 +1,6 @@
 -- What the values of the program stand for.
 use Rattle.std.specs.Prelude.{◌≡◌, ℕ, ◌+◌, ◌<◌, ◌≤◌, true, false, List, [], ◌∷◌, ◌++◌, map, length, ℤ, Some, None, Ok, Err, vec_items, Option, Result, nat_le, slice_index, slice_index_or, unsigned_abs}
-use Rattle.terms.specs.Checks.{unless}
+use Rattle.terms.specs.Checks.{unless, decided}
 use Rattle.terms.specs.declared.refusal.Refusal.{Refusal}
 use Rattle.terms.specs.declared.refusal.Refusal.TheVariants.{NetTooLarge, TooManyContracts, NotCovered}
 use Rattle.banks.specs.Meanings.{Meaning}
@@ -25,11 +25,9 @@ state_of meaning a = state_with (meaning a.bank) (deck_cards a.deck) (vec_items 
 abbrev pub rest_of : Order → Open
 rest_of o = o.rest
 
--- the first check that refuses, if one does
-abbrev pub first_of : List (Option Refusal) → Option Refusal
-first_of [] = None
-first_of (None ∷ checks) = first_of checks
-first_of (Some why ∷ checks) = Some why
+-- what checks decide alone: the first that refuses says why
+abbrev pub judged : List (Option Refusal) → Result (Unit {0}) Refusal
+judged checks = decided checks tt
 
 -- what a call is told, by the kind of its answer
 abbrev pub told_as : (ℕ → Answer) → Result ℕ Refusal → Result Answer Refusal
@@ -76,5 +74,5 @@ PlaceOf number orders None = found number orders ≡ None
 
 -- the place of the order that a call meets, if no check refuses the call; else the first refusal
 abbrev pub MayMeet : State → ℤ → Call → Result ℕ Refusal → Type 0
-MayMeet s number call (Ok place) = FirstAt none_open number s.orders place × (first_of (checks s call) ≡ None)
-MayMeet s number call (Err why) = first_of (checks s call) ≡ Some why
+MayMeet s number call (Ok place) = FirstAt none_open number s.orders place × (judged (checks s call) ≡ Ok tt)
+MayMeet s number call (Err why) = judged (checks s call) ≡ Err why

@@ -13,7 +13,7 @@ use margin::book::Position;
 pub struct Account<B> {
     pub(crate) bank: B,
     pub(crate) deck: Deck,
-    // one for each line
+    // one for each line; apart from `accepted`, since views and margins read the positions as one slice
     pub(crate) positions: Vec<Position>,
     // the open orders, in the order of their numbers, with room for 32
     pub(crate) orders: Vec<Order>,

@@ -1,4 +1,4 @@
-// What must be blocked for an account, with the orders that are open or with others in their place.
+// The book of an account, with the orders that are open or with others in their place, and what must be blocked for it.
 ghost use Rattle.std.specs.Prelude.{◌≡◌};
 ghost use Rattle.cells.specs.Books.{book_of as as_book};
 ghost use Rattle.deck.specs.Decks.{deck_cards};
@@ -25,20 +25,13 @@ impl<B: Bank> Account<B> {
         }
     }
 
-    // With these orders in place of the open ones.
-    fn blocked_with<'a>(&'a self, orders: &'a [Open]) -> Blocked
-        requires { SmallOrders orders.now }
-        ensures { BlockedFor (B.Bank.meaning self.now.bank) (deck_cards self.now.deck) (record { positions = self.now.positions.items; orders = orders.now }) result }
-    {
-        margin(&self.bank, &self.deck, self.book_with(orders))
-    }
-
-    // As the account is.
+    // What must be blocked for the account as it is.
     pub(crate) fn blocked(&self) -> Blocked
         ensures amount { result.amount ≡ margin_of (state_of B.Bank.meaning self.now) }
         ensures parts { BlockedFor (B.Bank.meaning self.now.bank) (deck_cards self.now.deck) (book_of (state_of B.Bank.meaning self.now)) result }
     {
         let rests = rests(self.orders.as_slice());
-        self.blocked_with(&rests[..self.orders.len()])
+        let book = self.book_with(&rests[..self.orders.len()]);
+        margin(&self.bank, &self.deck, book)
     }
 }

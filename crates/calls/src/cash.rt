@@ -1,71 +1,56 @@
 // Deposits and withdrawals.
-ghost use Rattle.std.specs.Prelude.{◌≡◌, ◌+◌, None, Ok, nat_le};
+ghost use Rattle.std.specs.Prelude.{◌≡◌, ◌+◌, nat_le};
 ghost use Rattle.account.specs.declared.call.Call.TheVariants.{Deposit, Withdraw};
 ghost use Rattle.account.specs.Account.{Collateral, margin_of, checks, step};
-ghost use Rattle.calls.specs.Accounts.{state_of, first_of, told_as};
+ghost use Rattle.calls.specs.Accounts.{state_of, told_as, judged};
 
 use crate::accounts::Account;
-use crate::size::size;
+use crate::limits::MOST_COLLATERAL;
 use banks::bank::Bank;
 use terms::cards::between;
 use terms::refusal::Refusal;
-
-// The largest amount of a call, and the largest collateral, in kopecks.
-const MOST_AMOUNT: i64 = 100_000_000_000_000;
-
-const MOST_COLLATERAL: u64 = 100_000_000_000_000;
 
 impl<B: Bank> Account<B> {
     // Adds to the collateral; answers the new collateral.
     pub fn deposit(&mut self, amount: i64) -> Result<u64, Refusal>
         ensures { (state_of B.Bank.meaning self.new, told_as Collateral result) ≡ step (state_of B.Bank.meaning self.old) (Deposit amount) }
     {
-        match self.deposit_refusal(amount) {
-            Some(why) => Err(why),
-            None => Ok(self.deposited(amount)),
-        }
+        self.check_deposit(amount)?;
+        self.collateral += amount.unsigned_abs();
+        Ok(self.collateral)
     }
 
-    fn deposit_refusal(&self, amount: i64) -> Option<Refusal>
-        ensures { result ≡ first_of (checks (state_of B.Bank.meaning self.now) (Deposit amount)) }
+    fn check_deposit(&self, amount: i64) -> Result<(), Refusal>
+        ensures { result ≡ judged (checks (state_of B.Bank.meaning self.now) (Deposit amount)) }
     {
-        if !between(amount, 0, MOST_AMOUNT) {
-            return Some(Refusal::BadAmount);
+        if !between(amount, 0, MOST_COLLATERAL as i64) {
+            return Err(Refusal::BadAmount);
         }
-        if self.collateral + size(amount) > MOST_COLLATERAL {
-            return Some(Refusal::CollateralTooLarge);
+        if self.collateral + amount.unsigned_abs() > MOST_COLLATERAL {
+            return Err(Refusal::CollateralTooLarge);
         }
-        None
-    }
-
-    fn deposited(&mut self, amount: i64) -> u64
-        requires { first_of (checks (state_of B.Bank.meaning self.old) (Deposit amount)) ≡ None }
-        ensures { (state_of B.Bank.meaning self.new, told_as Collateral (Ok result)) ≡ step (state_of B.Bank.meaning self.old) (Deposit amount) }
-    {
-        self.collateral += size(amount);
-        self.collateral
+        Ok(())
     }
 
     // Takes off the collateral; answers the new collateral.
     pub fn withdraw(&mut self, amount: i64) -> Result<u64, Refusal>
         ensures { (state_of B.Bank.meaning self.new, told_as Collateral result) ≡ step (state_of B.Bank.meaning self.old) (Withdraw amount) }
     {
-        match self.withdraw_refusal(amount) {
-            Some(why) => Err(why),
-            None => Ok(self.withdrawn(amount)),
-        }
+        self.check_withdraw(amount)?;
+        self.collateral -= amount.unsigned_abs();
+        Ok(self.collateral)
     }
 
-    fn withdraw_refusal(&self, amount: i64) -> Option<Refusal>
-        ensures { result ≡ first_of (checks (state_of B.Bank.meaning self.now) (Withdraw amount)) }
+    fn check_withdraw(&self, amount: i64) -> Result<(), Refusal>
+        ensures { result ≡ judged (checks (state_of B.Bank.meaning self.now) (Withdraw amount)) }
     {
-        if !between(amount, 0, MOST_AMOUNT) {
-            return Some(Refusal::BadAmount);
+        if !between(amount, 0, MOST_COLLATERAL as i64) {
+            return Err(Refusal::BadAmount);
         }
-        if !self.leaves_enough(size(amount)) {
-            return Some(Refusal::NotCovered);
+        if !self.leaves_enough(amount.unsigned_abs()) {
+            return Err(Refusal::NotCovered);
         }
-        None
+        Ok(())
     }
 
     // Whether the margin is covered without that much of the collateral.
@@ -73,13 +58,5 @@ impl<B: Bank> Account<B> {
         ensures { result ≡ nat_le (margin_of (state_of B.Bank.meaning self.now) + amount) self.now.collateral }
     {
         amount <= self.collateral && self.blocked().amount <= self.collateral - amount
-    }
-
-    fn withdrawn(&mut self, amount: i64) -> u64
-        requires { first_of (checks (state_of B.Bank.meaning self.old) (Withdraw amount)) ≡ None }
-        ensures { (state_of B.Bank.meaning self.new, told_as Collateral (Ok result)) ≡ step (state_of B.Bank.meaning self.old) (Withdraw amount) }
-    {
-        self.collateral -= size(amount);
-        self.collateral
     }
 }

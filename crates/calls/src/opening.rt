@@ -8,8 +8,8 @@ ghost use Rattle.calls.specs.Accounts.{state_of};
 ghost use Rattle.calls.specs.Begun.{BeginOutcome, CoverOutcome, with_cards};
 
 use crate::accounts::Account;
-use crate::size::size;
-use crate::trades::paid;
+use crate::limits::{MOST_COLLATERAL, MOST_ORDERS};
+use crate::trades::Trade;
 use banks::bank::Bank;
 use deck::deck::Deck;
 use deck::given::Given;
@@ -19,21 +19,19 @@ use terms::cards::{Held, between};
 use terms::fault::Fault;
 use terms::refusal::Refusal;
 
-// The largest collateral, in kopecks.
-const MOST_AMOUNT: i64 = 100_000_000_000_000;
-
-// The most orders that are open at once.
-const MOST_ORDERS: usize = 32;
-
 // What a held record says of its line.
 fn held_at(holding: &Held) -> Position
     requires net { unsigned_abs holding.now.net ≤ 10000 }
     requires price { unsigned_abs holding.now.price ≤ 10000000 }
     ensures { result ≡ held_at holding.now }
 {
+    let trade = Trade {
+        contracts: holding.net,
+        price: holding.price,
+    };
     Position {
         net: holding.net,
-        cost: paid(holding.net, holding.price),
+        cost: trade.cost(),
     }
 }
 
@@ -43,7 +41,7 @@ fn put_in(positions: &mut Vec<Position>, held: &[Held])
     ensures { positions.new.items ≡ put_in held.now positions.old.items }
 {
     for holding in held {
-        positions[size(holding.line) as usize] = held_at(holding);
+        positions[holding.line.unsigned_abs() as usize] = held_at(holding);
     }
 }
 
@@ -52,13 +50,9 @@ fn held_positions(heap: Global, held: &[Held], lines: usize) -> Result<Vec<Posit
     requires { failing (held_fits lines held.now) 0 held.now ≡ None }
     ensures { IfOk result (λ v. v.items ≡ put_in held.now (replicate lines nothing)) }
 {
-    match Vec::from_elem(heap, Position { net: 0, cost: 0 }, lines) {
-        Err(wanting) => Err(wanting),
-        Ok(mut positions) => {
-            put_in(&mut positions, held);
-            Ok(positions)
-        }
-    }
+    let mut positions = Vec::from_elem(heap, Position::default(), lines)?;
+    put_in(&mut positions, held);
+    Ok(positions)
 }
 
 // An account with no orders yet, whose margin is still to be looked at.
@@ -94,7 +88,7 @@ fn covered<B: Bank + Drop>(account: Account<B>) -> Result<Account<B>, Fault>
     if account.blocked().amount <= account.collateral {
         Ok(account)
     } else {
-        Err(Fault::Refused(Refusal::NotCovered))
+        Err(Refusal::NotCovered.into())
     }
 }
 
@@ -109,13 +103,10 @@ fn begin_with<B: Bank + Drop>(
     requires { first_unfit (deck_cards deck) held.now ≡ None }
     ensures { BeginOutcome B.Bank.meaning result (Ok (deck_cards deck)) (with_cards (B.Bank.meaning bank) (deck_cards deck) held.now collateral) }
 {
-    if !between(collateral, 0, MOST_AMOUNT) {
-        return Err(Fault::Refused(Refusal::BadAmount));
+    if !between(collateral, 0, MOST_COLLATERAL as i64) {
+        return Err(Refusal::BadAmount.into());
     }
-    match opened(heap, bank, deck, held, size(collateral)) {
-        Err(_) => Err(Fault::Memory),
-        Ok(account) => covered(account),
-    }
+    covered(opened(heap, bank, deck, held, collateral.unsigned_abs())?)
 }
 
 // An account over a bank, with cards, held records and collateral in kopecks. It is refused by the first check that applies;
@@ -129,8 +120,6 @@ pub fn begin<B: Bank + Drop>(
 ) -> Result<Account<B>, Fault>
     ensures { BeginOutcome B.Bank.meaning result (cards_judged (B.Bank.meaning bank).lines (given_cards given.now) held.now) (begins (B.Bank.meaning bank) (given_cards given.now) held.now collateral) }
 {
-    match Deck::judged(heap, given, held, bank.lines()) {
-        Err(fault) => Err(fault),
-        Ok(deck) => begin_with(heap, bank, deck, held, collateral),
-    }
+    let deck = Deck::judged(heap, given, held, bank.lines())?;
+    begin_with(heap, bank, deck, held, collateral)
 }

@@ -1,12 +1,10 @@
 // What happens to an order, and to the list of open orders.
-ghost use Rattle.std.specs.Prelude.{◌≡◌, suc, ◌<◌, ◌≤◌, not, ◌++◌, length, get_or, take, drop, vec_capacity, slice_index_or, unsigned_abs};
+ghost use Rattle.std.specs.Prelude.{◌≡◌, suc, ◌<◌, ◌≤◌, ◌++◌, length, get_or, take, drop, vec_capacity, slice_index_or, unsigned_abs};
 ghost use Rattle.margin.specs.Book.{names};
-ghost use Rattle.account.specs.Orders.{SmallEvent, signed, left_after, fill_state, state_after, order_after, is_gone as gone_of, kept as kept_of};
+ghost use Rattle.account.specs.Orders.{SmallEvent, signed, left_after, fill_state, state_after, order_after, kept as kept_of};
 ghost use Rattle.calls.specs.Accounts.{PlaceOf, none_open};
 
-use crate::size::size;
 use account::orders::{Event, Order, OrderState};
-use terms::judge::{Judge, first_failing};
 
 // So many contracts with the sign of an order.
 pub(crate) fn with_sign_of(left: i64, contracts: i64) -> i64
@@ -18,6 +16,7 @@ pub(crate) fn with_sign_of(left: i64, contracts: i64) -> i64
 }
 
 // The state of an order that was filled, by what is left of it.
+#[tactic(auto, unfolding(account::specs::Orders::fill_state))]
 fn of_filled(left: u64) -> OrderState
     ensures { result ≡ fill_state left }
 {
@@ -32,27 +31,15 @@ fn of_filled(left: u64) -> OrderState
 fn state_after(state: OrderState, event: Event, left: u64) -> OrderState
     ensures { result ≡ state_after state event left }
 {
-    match (state, event) {
-        (OrderState::Untouched, Event::Filled(_)) => of_filled(left),
-        (OrderState::Untouched, Event::Cancelled) => OrderState::Gone,
-        (OrderState::PartlyFilled, Event::Filled(_)) => of_filled(left),
-        (OrderState::PartlyFilled, Event::Cancelled) => OrderState::Gone,
-        (OrderState::Gone, Event::Filled(_)) => OrderState::Gone,
-        (OrderState::Gone, Event::Cancelled) => OrderState::Gone,
+    match event {
+        Event::Cancelled => OrderState::Gone,
+        Event::Filled(_) if state == OrderState::Gone => OrderState::Gone,
+        Event::Filled(_) => of_filled(left),
     }
 }
 
-fn is_gone(state: OrderState) -> bool
-    ensures { result ≡ gone_of state }
-{
-    match state {
-        OrderState::Untouched => false,
-        OrderState::PartlyFilled => false,
-        OrderState::Gone => true,
-    }
-}
-
-// What an event leaves of so many contracts.
+// What an event leaves of so many contracts. Orders and events are public, and anyone may make large ones, so that their sizes
+// are asked for here.
 fn leaves(event: Event, left: i64) -> i64
     requires small { unsigned_abs left ≤ 10000 }
     requires event { SmallEvent event }
@@ -71,7 +58,7 @@ fn meet(order: &mut Order, event: Event)
     ensures { order.new ≡ order_after event order.old }
 {
     order.rest.left = leaves(event, order.rest.left);
-    order.state = state_after(order.state, event, size(order.rest.left));
+    order.state = state_after(order.state, event, order.rest.left.unsigned_abs());
 }
 
 // The order at a place leaves the list if it is gone.
@@ -80,7 +67,7 @@ fn settle(orders: &mut Vec<Order>, place: usize)
     ensures items { orders.new.items ≡ take place orders.old.items ++ kept_of (slice_index_or orders.old.items place none_open) (drop (suc place) orders.old.items) }
     ensures capacity { vec_capacity orders.new ≡ vec_capacity orders.old }
 {
-    if is_gone(orders[place].state) {
+    if orders[place].state == OrderState::Gone {
         orders.remove(place);
     }
 }
@@ -95,34 +82,22 @@ pub(crate) fn meet_at(orders: &mut Vec<Order>, place: usize, event: Event) -> u6
     ensures left { result ≡ unsigned_abs (order_after event (slice_index_or orders.old.items place none_open)).rest.left }
 {
     meet(&mut orders[place], event);
-    let left = size(orders[place].rest.left);
+    let left = orders[place].rest.left.unsigned_abs();
     settle(orders, place);
     left
-}
-
-// Passes the orders of other numbers.
-#[derive(Drop)]
-struct OtherNumbers {
-    number: i64,
-}
-
-impl Judge<Order> for OtherNumbers {
-    ghost admits = { λ j _ o. not (names j.number o.number) };
-
-    fn passes(&self, _place: usize, order: &Order) -> bool {
-        !has_number(order.number, self.number)
-    }
 }
 
 fn has_number(own: u64, number: i64) -> bool
     ensures { result ≡ names number own }
 {
-    0 <= number && size(number) == own
+    u64::try_from(number) == Ok(own)
 }
 
 // The place of the open order that has a number, if there is one.
 pub(crate) fn place_of(orders: &[Order], number: i64) -> Option<usize>
     ensures { PlaceOf number orders.now result }
 {
-    first_failing(&OtherNumbers { number }, orders)
+    orders
+        .iter()
+        .position(|order| has_number(order.number, number))
 }

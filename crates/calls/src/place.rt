@@ -1,15 +1,15 @@
 // Orders are placed.
-ghost use Rattle.std.specs.Prelude.{◌≡◌, ◌+◌, ◌<◌, ◌≤◌, ◌∷◌, length, pos, None, nat_le, nat_lt, slice_index, unsigned_abs};
+ghost use Rattle.std.specs.Prelude.{◌≡◌, ◌+◌, ◌<◌, ◌≤◌, ◌∷◌, length, pos, Ok, nat_le, nat_lt, slice_index, unsigned_abs};
 ghost use Rattle.terms.specs.Checks.{unless};
 ghost use Rattle.terms.specs.declared.refusal.Refusal.TheVariants.{OrdersFull};
 ghost use Rattle.account.specs.declared.call.Call.TheVariants.{Place};
 ghost use Rattle.cells.specs.Books.{book_of as as_book};
 ghost use Rattle.account.specs.Account.{Numbered, quantity_fits, book_net_fits, bound_checks, checks, placed as placed_in, step};
-ghost use Rattle.calls.specs.Accounts.{state_of, first_of, told_as, margin_with, book_with, trial_checks, SmallOrders};
+ghost use Rattle.calls.specs.Accounts.{state_of, told_as, margin_with, book_with, trial_checks, judged};
 
 use crate::accounts::Account;
+use crate::limits::{MOST_ACCEPTED, MOST_CONTRACTS, MOST_NET, MOST_ORDERS, MOST_PRICE};
 use crate::rests::rests;
-use crate::size::size;
 use account::orders::{Order, OrderState};
 use banks::bank::Bank;
 use cells::book::Book;
@@ -19,27 +19,12 @@ use margin::book::Open;
 use terms::cards::between;
 use terms::refusal::Refusal;
 
-// The most orders that are open at once.
-const MOST_ORDERS: usize = 32;
-
-// The most contracts of an order.
-const MOST_CONTRACTS: u64 = 10_000;
-
-// The most that a line may come to hold, and to be short of.
-const MOST_NET: i64 = 10_000;
-
-// The most contracts that are accepted on a line.
-const MOST_ACCEPTED: u64 = 20_000;
-
-// The largest limit, in kopecks.
-const MOST_PRICE: i64 = 10_000_000;
-
 // The order that a call asks for, of a line that there is.
 fn asked(line: i64, quantity: i64, limit: i64) -> Open
     ensures { result ≡ record { line = unsigned_abs line; left = quantity; limit = limit } }
 {
     Open {
-        line: size(line) as usize,
+        line: line.unsigned_abs() as usize,
         left: quantity,
         limit,
     }
@@ -49,7 +34,7 @@ fn asked(line: i64, quantity: i64, limit: i64) -> Open
 fn quantity_fits(contracts: u64) -> bool
     ensures { result ≡ quantity_fits (pos contracts) }
 {
-    1 <= contracts && contracts <= MOST_CONTRACTS
+    (1..=MOST_CONTRACTS).contains(&contracts)
 }
 
 // Whether neither what a line may come to hold, nor what it may come to be short of, is too large.
@@ -62,7 +47,8 @@ fn net_fits(book: Book, line: usize) -> bool
 }
 
 impl<B: Bank> Account<B> {
-    // Whether the line accepts so many contracts more.
+    // Whether the line accepts so many contracts more. That there is such a line is a fact of this account, which no type of the
+    // line alone could hold.
     fn count_fits(&self, line: usize, contracts: u64) -> bool
         requires line { line < length self.now.positions.items }
         requires contracts { contracts ≤ 10000 }
@@ -78,66 +64,61 @@ impl<B: Bank> Account<B> {
         margin(&self.bank, &self.deck, book).amount <= self.collateral
     }
 
-    // What refuses an order that stands at the end of these, by the book that they make.
-    fn trial_refusal<'a>(
-        &'a self,
-        orders: &'a [Open],
-        line: usize,
-        contracts: u64,
-    ) -> Option<Refusal>
-        requires orders { SmallOrders orders.now }
+    // Checks an order of so many contracts of a line by the book that it makes.
+    fn check_trial<'a>(&'a self, book: Book<'a>, line: usize, contracts: u64) -> Result<(), Refusal>
         requires line { line < length self.now.positions.items }
+        requires book { line < length book.positions.now }
         requires contracts { contracts ≤ 10000 }
-        ensures { result ≡ first_of (trial_checks (state_of B.Bank.meaning self.now) (record { positions = self.now.positions.items; orders = orders.now }) line contracts) }
+        ensures { result ≡ judged (trial_checks (state_of B.Bank.meaning self.now) (as_book book.entry) line contracts) }
     {
-        let book = self.book_with(orders);
         if !net_fits(book, line) {
-            return Some(Refusal::NetTooLarge);
+            return Err(Refusal::NetTooLarge);
         }
         if !self.count_fits(line, contracts) {
-            return Some(Refusal::TooManyContracts);
+            return Err(Refusal::TooManyContracts);
         }
         if !self.covers(book) {
-            return Some(Refusal::NotCovered);
+            return Err(Refusal::NotCovered);
         }
-        None
+        Ok(())
     }
 
-    // What refuses an order whose own numbers are fine.
-    fn book_refusal(&self, order: Open) -> Option<Refusal>
+    // Checks an order whose own numbers are fine.
+    fn check_with_book(&self, order: Open) -> Result<(), Refusal>
         requires line { order.line < length self.now.positions.items }
         requires left { unsigned_abs order.left ≤ 10000 }
         requires limit { unsigned_abs order.limit ≤ 10000000 }
-        ensures { result ≡ first_of (unless (nat_lt (length self.now.orders.items) 32) OrdersFull ∷ trial_checks (state_of B.Bank.meaning self.now) (book_with (state_of B.Bank.meaning self.now) order) order.line (unsigned_abs order.left)) }
+        ensures { result ≡ judged (unless (nat_lt (length self.now.orders.items) 32) OrdersFull ∷ trial_checks (state_of B.Bank.meaning self.now) (book_with (state_of B.Bank.meaning self.now) order) order.line (unsigned_abs order.left)) }
     {
         let count = self.orders.len();
         if count >= MOST_ORDERS {
-            return Some(Refusal::OrdersFull);
+            return Err(Refusal::OrdersFull);
         }
         let mut trial = rests(self.orders.as_slice());
         trial[count] = order;
-        self.trial_refusal(&trial[..count + 1], order.line, size(order.left))
+        let book = self.book_with(&trial[..count + 1]);
+        self.check_trial(book, order.line, order.left.unsigned_abs())
     }
 
-    // What refuses an order.
-    fn place_refusal(&self, line: i64, quantity: i64, limit: i64) -> Option<Refusal>
-        ensures { result ≡ first_of (checks (state_of B.Bank.meaning self.now) (Place line quantity limit)) }
+    // Checks an order.
+    fn check_place(&self, line: i64, quantity: i64, limit: i64) -> Result<(), Refusal>
+        ensures { result ≡ judged (checks (state_of B.Bank.meaning self.now) (Place line quantity limit)) }
     {
         if !self.deck.has_line(line) {
-            return Some(Refusal::NoSuchLine);
+            return Err(Refusal::NoSuchLine);
         }
-        if !quantity_fits(size(quantity)) {
-            return Some(Refusal::BadQuantity);
+        if !quantity_fits(quantity.unsigned_abs()) {
+            return Err(Refusal::BadQuantity);
         }
         if !between(limit, 0, MOST_PRICE) {
-            return Some(Refusal::BadPrice);
+            return Err(Refusal::BadPrice);
         }
-        self.book_refusal(asked(line, quantity, limit))
+        self.check_with_book(asked(line, quantity, limit))
     }
 
     // The order goes to the end of the list.
     fn placed(&mut self, order: Open) -> u64
-        requires { first_of (bound_checks (state_of B.Bank.meaning self.old) (pos order.line) order.left order.limit) ≡ None }
+        requires { judged (bound_checks (state_of B.Bank.meaning self.old) (pos order.line) order.left order.limit) ≡ Ok tt }
         ensures state { state_of B.Bank.meaning self.new ≡ placed_in (state_of B.Bank.meaning self.old) (pos order.line) order.left order.limit }
         ensures number { result ≡ self.old.next }
     {
@@ -147,7 +128,7 @@ impl<B: Bank> Account<B> {
             rest: order,
             state: OrderState::Untouched,
         });
-        self.accepted[order.line] += size(order.left);
+        self.accepted[order.line] += order.left.unsigned_abs();
         self.next += 1;
         number
     }
@@ -157,9 +138,7 @@ impl<B: Bank> Account<B> {
     pub fn place(&mut self, line: i64, quantity: i64, limit: i64) -> Result<u64, Refusal>
         ensures { (state_of B.Bank.meaning self.new, told_as Numbered result) ≡ step (state_of B.Bank.meaning self.old) (Place line quantity limit) }
     {
-        match self.place_refusal(line, quantity, limit) {
-            Some(why) => Err(why),
-            None => Ok(self.placed(asked(line, quantity, limit))),
-        }
+        self.check_place(line, quantity, limit)?;
+        Ok(self.placed(asked(line, quantity, limit)))
     }
 }

@@ -1,30 +1,30 @@
 // What must be blocked, and the worst that it is blocked for.
-ghost use Rattle.std.specs.Prelude.{◌≡◌, ◌<◌, ◌≤◌, true, false, [], ◌∷◌, length, pos, Some, None, Ok, nat_lt, slice_index, slice_index_or};
+ghost use Rattle.std.specs.Prelude.{◌≡◌, [], ◌∷◌, length, Ok};
 ghost use Rattle.account.specs.declared.call.Call.TheVariants.{Margin};
 ghost use Rattle.account.specs.Account.{Required, step};
 ghost use Rattle.calls.specs.Accounts.{state_of};
 ghost use Rattle.calls.specs.Answers.{requirement_of};
+ghost use Rattle.calls.specs.Blockings.{family_in};
 ghost use Rattle.calls.specs.Safety.{SafeIfReached};
 
 use crate::accounts::Account;
 use crate::answer::{FamilyWorst, Requirement};
 use banks::bank::Bank;
 use cover::Blocked;
+use std::array;
 
-// A family of so many, if there is one of that number.
-fn family(blocked: &Blocked, count: usize, f: usize) -> Option<FamilyWorst>
-    requires losses { f < length blocked.now.losses }
-    requires worsts { f < length blocked.now.worsts }
-    ensures { result ≡ elim (nat_lt f count) [ true ↦ Some (record { loss = slice_index blocked.now.losses f; point = (slice_index_or blocked.now.worsts f (pos 0, 0)).1 }) | false ↦ None ] }
+// What each of so many families loses, and the first point of its worst.
+fn families(blocked: &Blocked, count: usize) -> [Option<FamilyWorst>; 2]
+    requires losses { length blocked.now.losses ≡ 2 }
+    requires worsts { length blocked.now.worsts ≡ 2 }
+    ensures { result ≡ family_in blocked.now.losses blocked.now.worsts count 0 ∷ family_in blocked.now.losses blocked.now.worsts count 1 ∷ [] }
 {
-    if f < count {
-        Some(FamilyWorst {
+    array::from_fn(|f| {
+        (f < count).then(|| FamilyWorst {
             loss: blocked.losses[f],
             point: blocked.worsts[f].1,
         })
-    } else {
-        None
-    }
+    })
 }
 
 impl<B: Bank> Account<B> {
@@ -38,7 +38,7 @@ impl<B: Bank> Account<B> {
         let count = self.deck.families.len();
         Requirement {
             amount: blocked.amount,
-            families: [family(&blocked, count, 0), family(&blocked, count, 1)],
+            families: families(&blocked, count),
             costliest: blocked.costliest,
             world: blocked.world,
         }

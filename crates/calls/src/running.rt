@@ -37,19 +37,14 @@ fn take_all<B: Bank>(
 // What a begun account answers to the calls.
 fn told_by<B: Bank + Drop>(
     heap: Global,
-    account: Account<B>,
+    mut account: Account<B>,
     calls: &[Call],
 ) -> Result<Vec<Result<Answer, Refusal>>, AllocError>
     ensures { IfOk result (λ v. map told_of v.items ≡ answers (state_of B.Bank.meaning account) calls.now) }
 {
-    match Vec::with_capacity(heap, calls.len()) {
-        Err(wanting) => Err(wanting),
-        Ok(mut told) => {
-            let mut running = account;
-            take_all(&mut running, calls, &mut told);
-            Ok(told)
-        }
-    }
+    let mut told = Vec::with_capacity(heap, calls.len())?;
+    take_all(&mut account, calls, &mut told);
+    Ok(told)
 }
 
 // Begins an account and has it take the calls in their order: what each of them was told. Wherever margin stands among them, the
@@ -66,11 +61,6 @@ pub fn run<B: Bank + Drop>(
     ensures told { RunOutcome result calls.now (cards_judged (B.Bank.meaning bank).lines (given_cards given.now) held.now) (begins (B.Bank.meaning bank) (given_cards given.now) held.now collateral) }
     ensures safe { SafeOutcome result calls.now (begins (B.Bank.meaning bank) (given_cards given.now) held.now collateral) }
 {
-    match begin(heap, bank, given, held, collateral) {
-        Err(fault) => Err(fault),
-        Ok(account) => match told_by(heap, account, calls) {
-            Err(_) => Err(Fault::Memory),
-            Ok(told) => Ok(told),
-        },
-    }
+    let account = begin(heap, bank, given, held, collateral)?;
+    Ok(told_by(heap, account, calls)?)
 }

@@ -4,24 +4,19 @@ ghost use Rattle.terms.specs.Checks.{unless};
 ghost use Rattle.terms.specs.declared.refusal.Refusal.TheVariants.{MoreThanLeft, WorseThanLimit};
 ghost use Rattle.account.specs.declared.call.Call.TheVariants.{Cancel, Fill};
 ghost use Rattle.account.specs.Account.{Ended, StillLeft, no_worse, moved as moved_by, step};
-ghost use Rattle.calls.specs.Accounts.{state_of, first_of, told_as, MayMeet};
+ghost use Rattle.calls.specs.Accounts.{state_of, told_as, MayMeet, judged};
 
 use crate::accounts::Account;
+use crate::limits::{MOST_CONTRACTS, MOST_PRICE};
 use crate::orders::{meet_at, place_of, with_sign_of};
-use crate::size::size;
 use account::orders::Event;
 use banks::bank::Bank;
 use margin::book::{Open, Position};
 use terms::cards::between;
 use terms::refusal::Refusal;
 
-// The most contracts of a fill.
-const MOST_CONTRACTS: i64 = 10_000;
-
-// The largest price of a fill, in kopecks.
-const MOST_PRICE: i64 = 10_000_000;
-
 // A buy is filled at no more than its limit, a sell at no less.
+#[tactic(auto, unfolding(account::specs::Account::no_worse))]
 fn no_worse(order: Open, price: i64) -> bool
     ensures { result ≡ no_worse order price }
 {
@@ -32,18 +27,18 @@ fn no_worse(order: Open, price: i64) -> bool
     }
 }
 
-// What refuses a fill of an order.
-fn fill_refusal(order: Open, quantity: i64, price: i64) -> Option<Refusal>
+// Checks a fill of an order.
+fn check_fill(order: Open, quantity: i64, price: i64) -> Result<(), Refusal>
     requires { pos 1 ≤ℤ quantity }
-    ensures { result ≡ first_of (unless (int_le quantity (pos (unsigned_abs order.left))) MoreThanLeft ∷ unless (no_worse order price) WorseThanLimit ∷ []) }
+    ensures { result ≡ judged (unless (int_le quantity (pos (unsigned_abs order.left))) MoreThanLeft ∷ unless (no_worse order price) WorseThanLimit ∷ []) }
 {
-    if size(quantity) > size(order.left) {
-        return Some(Refusal::MoreThanLeft);
+    if quantity.unsigned_abs() > order.left.unsigned_abs() {
+        return Err(Refusal::MoreThanLeft);
     }
     if !no_worse(order, price) {
-        return Some(Refusal::WorseThanLimit);
+        return Err(Refusal::WorseThanLimit);
     }
-    None
+    Ok(())
 }
 
 // What contracts cost in grains, at 80,000 grains a kopeck.
@@ -55,27 +50,34 @@ fn in_grains(contracts: i64) -> i64
     80_000 * contracts
 }
 
-// What contracts cost at a price, in grains.
-pub(crate) fn paid(contracts: i64, price: i64) -> i64
-    requires contracts { unsigned_abs contracts ≤ 10000 }
-    requires price { unsigned_abs price ≤ 10000000 }
-    ensures value { result ≡ pos 80000 *ℤ contracts *ℤ price }
-    ensures size { unsigned_abs result ≤ 8000000000000000 }
-{
-    in_grains(contracts) * price
+// Contracts at a price in kopecks, those bought positive and those sold negative.
+#[derive(Clone, Copy)]
+pub(crate) struct Trade {
+    pub(crate) contracts: i64,
+    pub(crate) price: i64,
+    ghost few: { unsigned_abs contracts ≤ 10000 },
+    ghost fair: { unsigned_abs price ≤ 10000000 },
 }
 
-// A position after contracts at a price.
-fn moved(position: Position, contracts: i64, price: i64) -> Position
+impl Trade {
+    // What the contracts cost at the price, in grains.
+    pub(crate) fn cost(self) -> i64
+        ensures value { result ≡ pos 80000 *ℤ self.contracts *ℤ self.price }
+        ensures size { unsigned_abs result ≤ 8000000000000000 }
+    {
+        in_grains(self.contracts) * self.price
+    }
+}
+
+// A position after a trade.
+fn moved(position: Position, trade: Trade) -> Position
     requires net { unsigned_abs position.net ≤ 10000 }
     requires cost { unsigned_abs position.cost ≤ 24000000000000000 }
-    requires contracts { unsigned_abs contracts ≤ 10000 }
-    requires price { unsigned_abs price ≤ 10000000 }
-    ensures { result ≡ moved_by position contracts price }
+    ensures { result ≡ moved_by position trade.contracts trade.price }
 {
     Position {
-        net: position.net + contracts,
-        cost: position.cost + paid(contracts, price),
+        net: position.net + trade.contracts,
+        cost: position.cost + trade.cost(),
     }
 }
 
@@ -84,57 +86,43 @@ impl<B: Bank> Account<B> {
     fn cancellable(&self, number: i64) -> Result<usize, Refusal>
         ensures { MayMeet (state_of B.Bank.meaning self.now) number (Cancel number) result }
     {
-        match place_of(self.orders.as_slice(), number) {
-            None => Err(Refusal::NoSuchOrder),
-            Some(place) => Ok(place),
-        }
+        place_of(&self.orders, number).ok_or(Refusal::NoSuchOrder)
     }
 
     // The place of the order that a fill meets.
     fn fillable(&self, number: i64, quantity: i64, price: i64) -> Result<usize, Refusal>
         ensures { MayMeet (state_of B.Bank.meaning self.now) number (Fill number quantity price) result }
     {
-        if !between(quantity, 1, MOST_CONTRACTS) {
+        if !between(quantity, 1, MOST_CONTRACTS as i64) {
             return Err(Refusal::BadQuantity);
         }
         if !between(price, 0, MOST_PRICE) {
             return Err(Refusal::BadPrice);
         }
-        match place_of(self.orders.as_slice(), number) {
-            None => Err(Refusal::NoSuchOrder),
-            Some(place) => match fill_refusal(self.orders[place].rest, quantity, price) {
-                Some(why) => Err(why),
-                None => Ok(place),
-            },
-        }
+        let place = place_of(&self.orders, number).ok_or(Refusal::NoSuchOrder)?;
+        check_fill(self.orders[place].rest, quantity, price)?;
+        Ok(place)
     }
 
     // The order of a number ends; answers the size that it had left.
     pub fn cancel(&mut self, number: i64) -> Result<u64, Refusal>
         ensures { (state_of B.Bank.meaning self.new, told_as Ended result) ≡ step (state_of B.Bank.meaning self.old) (Cancel number) }
     {
-        match self.cancellable(number) {
-            Err(why) => Err(why),
-            Ok(place) => {
-                let ended = size(self.orders[place].rest.left);
-                meet_at(&mut self.orders, place, Event::Cancelled);
-                Ok(ended)
-            }
-        }
+        let place = self.cancellable(number)?;
+        let ended = self.orders[place].rest.left.unsigned_abs();
+        meet_at(&mut self.orders, place, Event::Cancelled);
+        Ok(ended)
     }
 
     // Contracts of an order are filled at a price; answers the size that is still left of it.
     pub fn fill(&mut self, number: i64, quantity: i64, price: i64) -> Result<u64, Refusal>
         ensures { (state_of B.Bank.meaning self.new, told_as StillLeft result) ≡ step (state_of B.Bank.meaning self.old) (Fill number quantity price) }
     {
-        match self.fillable(number, quantity, price) {
-            Err(why) => Err(why),
-            Ok(place) => {
-                let order = self.orders[place].rest;
-                let contracts = with_sign_of(order.left, quantity);
-                self.positions[order.line] = moved(self.positions[order.line], contracts, price);
-                Ok(meet_at(&mut self.orders, place, Event::Filled(quantity)))
-            }
-        }
+        let place = self.fillable(number, quantity, price)?;
+        let order = self.orders[place].rest;
+        let contracts = with_sign_of(order.left, quantity);
+        let trade = Trade { contracts, price };
+        self.positions[order.line] = moved(self.positions[order.line], trade);
+        Ok(meet_at(&mut self.orders, place, Event::Filled(quantity)))
     }
 }

@@ -1,6 +1,6 @@
 // What refuses an account at its begin, with the number and the place.
 use crate::markets::{FUTURE, held};
-use crate::tables::Told;
+use crate::tables::{Told, refused};
 use banks::strip::Strip;
 use calls::accounts::Account;
 use calls::opening::begin;
@@ -36,7 +36,7 @@ const GOOD: Cards = Cards {
 fn told(begun: Result<Account<Strip>, Fault>) -> Told {
     match begun {
         Ok(account) => Ok(account.margin().amount),
-        Err(Fault::Refused(why)) => Err((why.number(), why.place())),
+        Err(Fault::Refused(why)) => Err(refused(why)),
         Err(Fault::Memory) => Err((0, 0)),
     }
 }
@@ -73,10 +73,8 @@ fn begun(heap: Global, lines: &[Line], cards: Cards, held: &[Held], collateral: 
         lines: &[line(cards.month, cards.first_rate)],
         futures: cards.futures,
     };
-    match Strip::new(1, lines) {
-        Ok(bank) => told(begin(heap, bank, &given, held, collateral)),
-        Err(why) => Err((why.number(), why.place())),
-    }
+    let bank = Strip::new(1, lines).map_err(refused)?;
+    told(begin(heap, bank, &given, held, collateral))
 }
 
 // Each of these has a fault more than the one before.

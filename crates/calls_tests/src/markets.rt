@@ -35,10 +35,8 @@ pub fn one_future(heap: Global, held: &[Held], collateral: i64) -> Result<Accoun
         lines: &[FUTURE],
         futures: 1,
     };
-    match Strip::new(1, given.lines) {
-        Err(why) => Err(Fault::Refused(why)),
-        Ok(bank) => begin(heap, bank, &given, held, collateral),
-    }
+    let bank = Strip::new(1, given.lines)?;
+    begin(heap, bank, &given, held, collateral)
 }
 
 // Contracts of the first line, taken at its price.

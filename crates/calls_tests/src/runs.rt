@@ -1,6 +1,6 @@
 // Runs of calls: numbers, states and margins along the way.
 use crate::markets::{FUTURE, NETTED, one_future};
-use crate::tables::{Step, Told, follow};
+use crate::tables::{Step, Told, follow, refused};
 use account::call::Call;
 use account::orders::{Order, OrderState};
 use banks::bank::Bank;
@@ -74,12 +74,14 @@ const OUTCOMES: [Told; 12] = [
 // The number that a call answers, of a margin the amount.
 fn heard(outcome: Result<Answer, Refusal>) -> Told {
     match outcome {
-        Ok(Answer::Numbered(number)) => Ok(number),
-        Ok(Answer::StillLeft(left)) => Ok(left),
-        Ok(Answer::Ended(size)) => Ok(size),
-        Ok(Answer::Collateral(amount)) => Ok(amount),
+        Ok(
+            Answer::Numbered(number)
+            | Answer::StillLeft(number)
+            | Answer::Ended(number)
+            | Answer::Collateral(number),
+        ) => Ok(number),
         Ok(Answer::Required(requirement)) => Ok(requirement.amount),
-        Err(why) => Err((why.number(), why.place())),
+        Err(why) => Err(refused(why)),
     }
 }
 

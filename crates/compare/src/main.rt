@@ -3,6 +3,8 @@
 // with the length of the answer, then the bytes of both.
 #![tactic(auto)]
 
+ghost use Rattle.std.specs.Prelude.{◌≡◌, ◌+◌, ◌<◌, length, IfOk};
+
 use anyhow::anyhow;
 use day::report::Refused;
 use day::session::answer;
@@ -10,8 +12,6 @@ use std::alloc::{AllocError, Global};
 use std::io::Read;
 use std::str;
 use terms::fault::Fault;
-
-const MOST_CASES: usize = 1_000_000;
 
 // What is left of the cases.
 #[derive(Drop)]
@@ -21,40 +21,35 @@ struct Cases<'a> {
 
 impl<'a> Cases<'a> {
     // So many bytes.
-    fn part(&mut self, length: usize) -> anyhow::Result<&'a [u8]> {
-        if length > self.rest.len() {
-            return Err(anyhow!("a case is cut off"));
-        }
-        let (part, rest) = self.rest.split_at(length);
+    fn part(&mut self, count: usize) -> anyhow::Result<&'a [u8]>
+        ensures { IfOk result (λ part. length self.new.rest.now + count ≡ length self.old.rest.now) }
+    {
+        let (part, rest) = self
+            .rest
+            .split_at_checked(count)
+            .ok_or_else(|| anyhow!("a case is cut off"))?;
         self.rest = rest;
         Ok(part)
     }
 
     // A line, without its end.
-    fn line(&mut self) -> anyhow::Result<&'a [u8]> {
-        let line = self.part(end_of_line(self.rest))?;
+    fn line(&mut self) -> anyhow::Result<&'a [u8]>
+        ensures { IfOk result (λ line. length self.new.rest.now < length self.old.rest.now) }
+    {
+        let end = self.rest.iter().position(|byte| *byte == b'\n');
+        let line = self.part(end.unwrap_or(self.rest.len()))?;
         self.part(1)?;
         Ok(line)
     }
 
     // A length in digits.
-    fn length(&mut self) -> anyhow::Result<usize> {
+    fn length(&mut self) -> anyhow::Result<usize>
+        ensures { IfOk result (λ n. length self.new.rest.now < length self.old.rest.now) }
+    {
         let line = self.line()?;
-        match str::from_utf8(line) {
-            Ok(digits) => Ok(digits.parse::<usize>()?),
-            Err(_) => Err(anyhow!("a length is no text")),
-        }
+        let digits = str::from_utf8(line).map_err(|_| anyhow!("a length is no text"))?;
+        Ok(digits.parse()?)
     }
-}
-
-// How many bytes stand before the end of the line.
-fn end_of_line(bytes: &[u8]) -> usize {
-    for (place, byte) in bytes.iter().enumerate() {
-        if *byte == b'\n' {
-            return place;
-        }
-    }
-    bytes.len()
 }
 
 fn main(rt: HostRuntime) -> anyhow::Result<()> {
@@ -69,10 +64,7 @@ fn run(rt: &HostRuntime) -> anyhow::Result<()> {
     };
     let mut count: usize = 0;
     let mut different: usize = 0;
-    for _ in 0..MOST_CASES {
-        if cases.rest.is_empty() {
-            break;
-        }
+    while !cases.rest.is_empty() {
         if !agrees(rt, &mut cases)? {
             different = different.saturating_add(1);
         }
@@ -83,7 +75,9 @@ fn run(rt: &HostRuntime) -> anyhow::Result<()> {
 }
 
 // Whether the next case is answered as the second program answers it; prints its name where it is not.
-fn agrees(rt: &HostRuntime, cases: &mut Cases) -> anyhow::Result<bool> {
+fn agrees(rt: &HostRuntime, cases: &mut Cases) -> anyhow::Result<bool>
+    ensures { IfOk result (λ same. length cases.new.rest.now < length cases.old.rest.now) }
+{
     let name = cases.line()?;
     let session = cases.length()?;
     let wanted = cases.length()?;

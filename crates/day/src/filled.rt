@@ -6,9 +6,7 @@ ghost use Rattle.day.specs.Filled.{used_day, Within};
 ghost use Rattle.day.specs.Lent.{day_of};
 ghost use Rattle.day.specs.Told.{ToldOutcome, SafeOn};
 
-use crate::calling::calls_of;
 use crate::lent::Day;
-use crate::over::over_cards;
 use calls::answer::Answer;
 use load::lists::Lists;
 use load::loading::Loaded;
@@ -45,9 +43,5 @@ pub fn told_in<'a>(
     ensures told { ToldOutcome result (day_told (used_day used.now (contents_of lists.now))) }
     ensures safe { SafeOn (used_day used.now (contents_of lists.now)) (bank_made (used_day used.now (contents_of lists.now))) result }
 {
-    let day = day_in(used, lists);
-    match calls_of(heap, day.orders) {
-        Err(_) => Err(Fault::Memory),
-        Ok(calls) => over_cards(heap, day, calls.as_slice()),
-    }
+    day_in(used, lists).told(heap)
 }

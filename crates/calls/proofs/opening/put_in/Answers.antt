@@ -25,7 +25,7 @@ index_mut-requires c =
     let lines = length (vec_items c.args.positions.now) in
     let fits : SFits w64 (get_or c.args.held.now c.loop-holding.holding-index none_held).line = search rules in
     let sizes = sizes_at lines c.args.held.now c.loop-holding.holding-index c.requires c.loop-holding-test.true in
-    let number = (simp to_z-of_z at c.size.ensures) ∙ named_size lines (get_or c.args.held.now c.loop-holding.holding-index none_held).line sizes.names_a_line in
+    let number = (simp to_z-of_z at c.unsigned_abs.ensures.value) ∙ named_size lines (get_or c.args.held.now c.loop-holding.holding-index none_held).line sizes.names_a_line in
     let inside = one_of lines (get_or c.args.held.now c.loop-holding.holding-index none_held).line sizes.names_a_line in
     let same = ap length c.loop-holding.invariant ∙ put_in_length (take c.loop-holding.holding-index c.args.held.now) (vec_items c.args.positions.now) in
     omega (arith, number, inside, same, c.loop-holding.positions.ok.0)
@@ -35,8 +35,8 @@ loop-holding-preserved c =
     let lines = length (vec_items c.args.positions.now) in
     let fits : SFits w64 (get_or c.args.held.now c.loop-holding.holding-index none_held).line = search rules in
     let sizes = sizes_at lines c.args.held.now c.loop-holding.holding-index c.requires c.loop-holding-test.true in
-    let number = (simp to_z-of_z at c.size.ensures) ∙ named_size lines (get_or c.args.held.now c.loop-holding.holding-index none_held).line sizes.names_a_line in
-    ap (λ (ps : List Position). set ps c.size.result c.held_at.result) c.loop-holding.invariant
+    let number = (simp to_z-of_z at c.unsigned_abs.ensures.value) ∙ named_size lines (get_or c.args.held.now c.loop-holding.holding-index none_held).line sizes.names_a_line in
+    ap (λ (ps : List Position). set ps c.unsigned_abs.result c.held_at.result) c.loop-holding.invariant
     ∙ ap₂ (set (put_in (take c.loop-holding.holding-index c.args.held.now) (vec_items c.args.positions.now))) number c.held_at.ensures
     ∙ sym (put_in_more c.args.held.now c.loop-holding.holding-index none_held (vec_items c.args.positions.now) c.loop-holding-test.true)
 

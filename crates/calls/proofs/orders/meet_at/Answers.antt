@@ -23,5 +23,5 @@ returns c =
     record {
       items = c.settle.ensures.items ∙ changed_settled none_open orders place c.meet.new.order c.requires.place ∙ ap (λ (o : Order). take place orders ++ kept o (drop (suc place) orders)) met;
       capacity = c.settle.ensures.capacity;
-      left = c.size-left.ensures ∙ ap nat_abs (back c.index.result.now.rest.left (rw left (left-is-small c.args.event (get_or orders place none_open) c.requires.small c.requires.event)) ∙ left);
+      left = c.unsigned_abs-left.ensures.value ∙ ap nat_abs (back c.index.result.now.rest.left (rw left (left-is-small c.args.event (get_or orders place none_open) c.requires.small c.requires.event)) ∙ left);
     }

@@ -1,27 +1,12 @@
-use Rattle.std.proofs.Common.{rules}
-use Rattle.account.specs.Orders.{state_after}
+use Rattle.std.proofs.Common.{sym, ◌∙◌}
+use Rattle.calls.proofs.Places.{cancelled_is, gone_stays, filled_is}
 use Rattle.calls.proofs.orders.state_after.Goals as goal
 
-pub returns-in-Untouched-Filled : goal.returns-in-Untouched-Filled
-unfolding state_after
-returns-in-Untouched-Filled c = search rules
+pub returns-in-Cancelled : goal.returns-in-Cancelled
+returns-in-Cancelled c = rw c.in-Cancelled.is (cancelled_is c.args.state c.args.left)
 
-pub returns-in-Untouched-Cancelled : goal.returns-in-Untouched-Cancelled
-unfolding state_after
-returns-in-Untouched-Cancelled c = search rules
+pub returns-in-Filled : goal.returns-in-Filled
+returns-in-Filled c = rw c.in-Filled.is (gone_stays c.args.state c.in-Filled.field-0 c.args.left (sym c.eq.ensures ∙ c.if-eq.true))
 
-pub returns-in-PartlyFilled-Filled : goal.returns-in-PartlyFilled-Filled
-unfolding state_after
-returns-in-PartlyFilled-Filled c = search rules
-
-pub returns-in-PartlyFilled-Cancelled : goal.returns-in-PartlyFilled-Cancelled
-unfolding state_after
-returns-in-PartlyFilled-Cancelled c = search rules
-
-pub returns-in-Gone-Filled : goal.returns-in-Gone-Filled
-unfolding state_after
-returns-in-Gone-Filled c = search rules
-
-pub returns-in-Gone-Cancelled : goal.returns-in-Gone-Cancelled
-unfolding state_after
-returns-in-Gone-Cancelled c = search rules
+pub returns-in-Filled-2 : goal.returns-in-Filled-2
+returns-in-Filled-2 c = c.of_filled.ensures ∙ rw c.in-Filled-2.is (filled_is c.args.state c.in-Filled-2.field-0 c.args.left (sym c.eq.ensures ∙ c.if-eq.false))

@@ -1,7 +1,8 @@
-use Rattle.std.proofs.Common.{List, vec_items, sym, subst, arith}
+use Rattle.std.proofs.Common.{List, vec_items, sym, ap, ◌∙◌, subst, arith}
 use lib.ListN.{length-map}
 use Rattle.std.proofs.lemmas.List.{length-take-le}
 use Rattle.margin.specs.declared.book.Open.{Open}
+use Rattle.margin.specs.Book.{Book}
 use Rattle.calls.specs.Accounts.{state_of, rest_of}
 use Rattle.calls.specs.Blockings.{BlockedFor}
 use Rattle.calls.proofs.Copies.{front_is}
@@ -17,13 +18,13 @@ slice_bounds-rests-end g c =
     let few = (bounded g.B.Bank.meaning c.args.self.now).few_orders in
     omega (arith, c.rests-rests.ensures.long, c.len.ensures, c.args.self.now.orders.ok.0)
 
-pub slice_bounds-blocked_with-end : goal.slice_bounds-blocked_with-end
-slice_bounds-blocked_with-end g c =
+pub slice_bounds-book_with-end : goal.slice_bounds-book_with-end
+slice_bounds-book_with-end g c =
     let few = (bounded g.B.Bank.meaning c.args.self.now).few_orders in
     sym (length-take-le c.len.result c.rests-rests.result (omega (arith, c.rests-rests.ensures.long, c.len.ensures, c.args.self.now.orders.ok.0)))
 
-pub blocked_with-requires : goal.blocked_with-requires
-blocked_with-requires g c =
+pub book_with-book-requires : goal.book_with-book-requires
+book_with-book-requires g c =
     let a = c.args.self.now in
     let s = state_of g.B.Bank.meaning a in
     let b = bounded g.B.Bank.meaning a in
@@ -39,5 +40,6 @@ returns g c =
     let a = c.args.self.now in
     let s = state_of g.B.Bank.meaning a in
     let rests = front_is rest_of (vec_items a.orders) _ c.rests-rests.result c.len.result c.as_slice.ensures.value (omega (arith, c.len.ensures, a.orders.ok.0)) c.rests-rests.ensures.value in
-    let parts = subst (λ (os : List Open). BlockedFor s.bank s.cards (record { positions = s.positions; orders = os }) c.blocked_with.result) rests c.blocked_with.ensures in
+    let book = c.book_with-book.ensures ∙ ap (λ (os : List Open). record { positions = s.positions; orders = os }) rests in
+    let parts = subst (λ (b : Book). BlockedFor s.bank s.cards b c.margin.result) book (record { amount_is = c.margin.ensures.amount; losses_are = c.margin.ensures.losses; worsts_are = c.margin.ensures.worsts; costliest_is = c.margin.ensures.costliest; world_is = c.margin.ensures.world }) in
     record { amount = parts.amount_is; parts = parts }

@@ -10,5 +10,5 @@ unfolding step
 returns g c =
     let a = c.args.self.now in
     let s = state_of g.B.Bank.meaning a in
-    let same = requirement_is s c.blocked-blocked.result c.len-count.result c.family.result c.family-2.result (omega (arith, a.deck.some_families, a.deck.families.ok.0)) (omega (arith, a.deck.few_families, a.deck.families.ok.0)) (omega (arith, c.len-count.ensures, a.deck.families.ok.0)) c.blocked-blocked.ensures.parts c.family.ensures c.family-2.ensures in
+    let same = requirement_is s c.blocked-blocked.result c.len-count.result c.families.result (omega (arith, a.deck.some_families, a.deck.families.ok.0)) (omega (arith, a.deck.few_families, a.deck.families.ok.0)) (omega (arith, c.len-count.ensures, a.deck.families.ok.0)) c.blocked-blocked.ensures.parts c.families.ensures in
     record { answer = ap (λ (q : account.Requirement). (s, Ok (Required q))) (sym same); safe = reached_is_safe s _ same }

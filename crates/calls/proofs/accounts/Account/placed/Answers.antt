@@ -30,7 +30,7 @@ overflow_add-index_mut g c =
     let few = (b.each_line o.line inside).few_accepted in
     let read = c.index_mut.ensures.value ∙ get_or_default (vec_items a.accepted) o.line _ 0 (omega (arith, b.a_count_a_line)) in
     let contracts = few_contracts s b o.line o.left o.limit h in
-    let size = c.size.ensures ∙ ap nat_abs (back o.left (omega arith)) in
+    let size = c.unsigned_abs.ensures.value ∙ ap nat_abs (back o.left (omega arith)) in
     omega arith
 
 pub overflow_add-self : goal.overflow_add-self
@@ -48,7 +48,7 @@ invariant_of-self g c =
     let h = none_refuses (bound_checks s (pos o.line) o.left o.limit) c.requires in
     let inside = line_inside s b o.line o.left o.limit h in
     let contracts = few_contracts s b o.line o.left o.limit h in
-    let count = ap (λ n. n + c.size.result) (c.index_mut.ensures.value ∙ get_or_default (vec_items a.accepted) o.line _ 0 (omega (arith, b.a_count_a_line))) ∙ ap (λ n. get_or s.accepted o.line 0 + n) (c.size.ensures ∙ ap nat_abs (back o.left (omega arith))) in
+    let count = ap (λ n. n + c.unsigned_abs.result) (c.index_mut.ensures.value ∙ get_or_default (vec_items a.accepted) o.line _ 0 (omega (arith, b.a_count_a_line))) ∙ ap (λ n. get_or s.accepted o.line 0 + n) (c.unsigned_abs.ensures.value ∙ ap nat_abs (back o.left (omega arith))) in
     let same = placed_is s o.line o.left o.limit _ _ _ c.push_reserved.ensures.items count refl in
     record { room = omega (arith, a.room, c.push_reserved.ensures.capacity); bounds = kept _ (subst InBounds (sym same) (place_bounded s b (pos o.line) o.left o.limit h)) }
 
@@ -61,5 +61,5 @@ returns g c =
     let h = none_refuses (bound_checks s (pos o.line) o.left o.limit) c.requires in
     let inside = line_inside s b o.line o.left o.limit h in
     let contracts = few_contracts s b o.line o.left o.limit h in
-    let count = ap (λ n. n + c.size.result) (c.index_mut.ensures.value ∙ get_or_default (vec_items a.accepted) o.line _ 0 (omega (arith, b.a_count_a_line))) ∙ ap (λ n. get_or s.accepted o.line 0 + n) (c.size.ensures ∙ ap nat_abs (back o.left (omega arith))) in
+    let count = ap (λ n. n + c.unsigned_abs.result) (c.index_mut.ensures.value ∙ get_or_default (vec_items a.accepted) o.line _ 0 (omega (arith, b.a_count_a_line))) ∙ ap (λ n. get_or s.accepted o.line 0 + n) (c.unsigned_abs.ensures.value ∙ ap nat_abs (back o.left (omega arith))) in
     record { state = placed_is s o.line o.left o.limit _ _ _ c.push_reserved.ensures.items count refl; number = refl }
