@@ -72,7 +72,7 @@ impl Reader<'_> {
         let bracket = self.open_inner()?;
         self.asked_head(field, bracket)?;
         self.numbers_into(field, out)?;
-        self.expect(b')')
+        self.expect(')')
     }
 
     // An inner form of one number, which has to be the one that is due. Another number is refused at the row's bracket.

@@ -12,18 +12,20 @@ use terms::refusal::Refusal;
 use text::number::number;
 
 impl Reader<'_> {
-    // Whether a byte stands here.
-    fn stands_here(&self, byte: u8) -> bool
-        ensures { result ≡ stands byte self.now.text.now self.now.at }
+    // Whether a character stands here.
+    fn stands_here(&self, c: char) -> bool
+        ensures { result ≡ stands c self.now.text.now self.now.at }
     {
-        self.text.get(self.at).is_some_and(|here| *here == byte)
+        self.text
+            .get(self.at)
+            .is_some_and(|byte| *byte as char == c)
     }
 
-    // Steps over a byte.
-    pub(crate) fn expect(&mut self, byte: u8) -> Result<(), Refusal>
-        ensures { Moves (byte_in byte) self.old self.new result }
+    // Steps over a character.
+    pub(crate) fn expect(&mut self, c: char) -> Result<(), Refusal>
+        ensures { Moves (byte_in c) self.old self.new result }
     {
-        if self.stands_here(byte) {
+        if self.stands_here(c) {
             self.at += 1;
             Ok(())
         } else {
@@ -58,7 +60,7 @@ impl Reader<'_> {
     pub(crate) fn spaced_number(&mut self, allowed: Allowed) -> Result<i64, Refusal>
         ensures { Moves (spaced_in allowed) self.old self.new result }
     {
-        self.expect(b' ')?;
+        self.expect(' ')?;
         self.number(allowed)
     }
 
@@ -66,12 +68,12 @@ impl Reader<'_> {
     pub(crate) fn open_inner(&mut self) -> Result<usize, Refusal>
         ensures { Moves open_in self.old self.new result }
     {
-        if self.stands_here(b')') {
+        if self.stands_here(')') {
             return Err(Refusal::WrongForm(self.at));
         }
-        self.expect(b' ')?;
+        self.expect(' ')?;
         let bracket = self.at;
-        self.expect(b'(')?;
+        self.expect('(')?;
         Ok(bracket)
     }
 
@@ -124,7 +126,7 @@ impl Reader<'_> {
         let bracket = self.open_inner()?;
         self.asked_head(field, bracket)?;
         let filled = self.numbers::<K>(inner, field, so_far)?;
-        self.expect(b')')?;
+        self.expect(')')?;
         Ok(filled)
     }
 
@@ -143,7 +145,7 @@ impl Reader<'_> {
     pub(crate) fn begins_with(&self, head: &[u8]) -> bool
         ensures { result ≡ begins head.now self.now.text.now self.now.at }
     {
-        self.stands_here(b'(') && same_head(head, &self.text[self.at + 1..])
+        self.stands_here('(') && same_head(head, &self.text[self.at + 1..])
     }
 
     // The bracket and the head of an outer form.
@@ -162,11 +164,11 @@ impl Reader<'_> {
     pub(crate) fn close_line(&mut self) -> Result<(), Refusal>
         ensures { Moves close_in self.old self.new result }
     {
-        if self.stands_here(b' ') {
+        if self.stands_here(' ') {
             return Err(Refusal::WrongForm(self.at + 1));
         }
-        self.expect(b')')?;
-        self.expect(b'\n')
+        self.expect(')')?;
+        self.expect('\n')
     }
 }
 

@@ -39,7 +39,7 @@ pub fn malformed(text: &[u8]) -> Option<usize>
 {
     let mut state = State::Line;
     for (place, byte) in text.iter().enumerate() {
-        let Some(after) = next(state, *byte) else {
+        let Some(after) = next(state, *byte as char) else {
             return Some(place);
         };
         state = after;
@@ -57,88 +57,94 @@ fn end(state: State, place: usize) -> Option<usize>
     }
 }
 
-// The state behind the next byte, or none where it cannot stand there.
-fn next(state: State, byte: u8) -> Option<State>
-    ensures { result ≡ step state byte }
+// The state behind the next character, or none where it cannot stand there.
+fn next(state: State, c: char) -> Option<State>
+    ensures { result ≡ step state c }
 {
     match state {
-        State::Line => open(byte, State::OuterOpen),
-        State::OuterOpen => letter(byte, State::OuterHead),
-        State::OuterHead => letter(byte, State::OuterHead).or(more_forms(byte)),
-        State::OuterSpace => open(byte, State::InnerOpen),
-        State::InnerOpen => letter(byte, State::InnerHead),
-        State::InnerHead => letter(byte, State::InnerHead).or(more_numbers(byte)),
-        State::InnerSpace => first_of_number(byte),
-        State::Minus => first_digit(byte),
-        State::Zero => more_numbers(byte),
-        State::Digits(count) => next_digit(count, byte).or(more_numbers(byte)),
-        State::InnerClosed => more_forms(byte),
-        State::OuterClosed => end_of_line(byte),
+        State::Line => open(c, State::OuterOpen),
+        State::OuterOpen => letter(c, State::OuterHead),
+        State::OuterHead => letter(c, State::OuterHead).or(more_forms(c)),
+        State::OuterSpace => open(c, State::InnerOpen),
+        State::InnerOpen => letter(c, State::InnerHead),
+        State::InnerHead => letter(c, State::InnerHead).or(more_numbers(c)),
+        State::InnerSpace => first_of_number(c),
+        State::Minus => first_digit(c),
+        State::Zero => more_numbers(c),
+        State::Digits(count) => next_digit(count, c).or(more_numbers(c)),
+        State::InnerClosed => more_forms(c),
+        State::OuterClosed => end_of_line(c),
     }
 }
 
 // An opening bracket.
-fn open(byte: u8, after: State) -> Option<State>
-    ensures { result ≡ when (byte == 40) after None }
+fn open(c: char, after: State) -> Option<State>
+    ensures { result ≡ when (c == 40) after None }
 {
-    (byte == b'(').then_some(after)
+    match c {
+        '(' => Some(after),
+        _ => None,
+    }
 }
 
 // A letter of a head.
-fn letter(byte: u8, after: State) -> Option<State>
-    ensures { result ≡ when (is_ascii_lowercase byte) after None }
+fn letter(c: char, after: State) -> Option<State>
+    ensures { result ≡ when (is_ascii_lowercase c) after None }
 {
-    byte.is_ascii_lowercase().then_some(after)
+    c.is_ascii_lowercase().then_some(after)
 }
 
-fn first_of_number(byte: u8) -> Option<State>
-    ensures { result ≡ step State.InnerSpace byte }
+fn first_of_number(c: char) -> Option<State>
+    ensures { result ≡ step State.InnerSpace c }
 {
-    match byte {
-        b'-' => Some(State::Minus),
-        b'0' => Some(State::Zero),
-        _ => first_digit(byte),
+    match c {
+        '-' => Some(State::Minus),
+        '0' => Some(State::Zero),
+        _ => first_digit(c),
     }
 }
 
 // The first digit of a number other than 0.
-fn first_digit(byte: u8) -> Option<State>
-    ensures { result ≡ step State.Minus byte }
+fn first_digit(c: char) -> Option<State>
+    ensures { result ≡ step State.Minus c }
 {
-    (b'1'..=b'9').contains(&byte).then_some(State::Digits(1))
+    ('1'..='9').contains(&c).then_some(State::Digits(1))
 }
 
 // One more digit, behind `count` of them.
-fn next_digit(count: usize, byte: u8) -> Option<State>
-    ensures { result ≡ when (is_ascii_digit byte && nat_lt count 15) (State.Digits (count + 1)) None }
+fn next_digit(count: usize, c: char) -> Option<State>
+    ensures { result ≡ when (is_ascii_digit c && nat_lt count 15) (State.Digits (count + 1)) None }
 {
-    (byte.is_ascii_digit() && count < MOST).then(|| State::Digits(count + 1))
+    (c.is_ascii_digit() && count < MOST).then(|| State::Digits(count + 1))
 }
 
-fn end_of_line(byte: u8) -> Option<State>
-    ensures { result ≡ step State.OuterClosed byte }
+fn end_of_line(c: char) -> Option<State>
+    ensures { result ≡ step State.OuterClosed c }
 {
-    (byte == b'\n').then_some(State::Line)
+    match c {
+        '\n' => Some(State::Line),
+        _ => None,
+    }
 }
 
 // What may follow a head or an inner form, within an outer form.
-fn more_forms(byte: u8) -> Option<State>
-    ensures { result ≡ more_forms byte }
+fn more_forms(c: char) -> Option<State>
+    ensures { result ≡ more_forms c }
 {
-    match byte {
-        b' ' => Some(State::OuterSpace),
-        b')' => Some(State::OuterClosed),
+    match c {
+        ' ' => Some(State::OuterSpace),
+        ')' => Some(State::OuterClosed),
         _ => None,
     }
 }
 
 // What may follow a head or a number, within an inner form.
-fn more_numbers(byte: u8) -> Option<State>
-    ensures { result ≡ more_numbers byte }
+fn more_numbers(c: char) -> Option<State>
+    ensures { result ≡ more_numbers c }
 {
-    match byte {
-        b' ' => Some(State::InnerSpace),
-        b')' => Some(State::InnerClosed),
+    match c {
+        ' ' => Some(State::InnerSpace),
+        ')' => Some(State::InnerClosed),
         _ => None,
     }
 }
