@@ -1,6 +1,7 @@
 -- What a part of the file was read into, by cases.
-use Rattle.std.proofs.Common.{◌≡◌, ℕ, Ok, Err, Result, sym, refl, ap, subst, arith}
+use Rattle.std.proofs.Common.{◌≡◌, ℕ, Ok, Err, sym, refl, ap, subst}
 use Rattle.terms.specs.declared.refusal.Refusal.{Refusal}
+use Rattle.terms.proofs.Passed.{err_is_ok}
 use Rattle.forms.specs.Reads.{Told}
 use Rattle.load.specs.declared.lists.Lengths.{Lengths}
 use Rattle.load.specs.declared.loading.Loaded.{Loaded}
@@ -21,15 +22,12 @@ module _ {X N : Type 0} (counts : X → N) (with : X → Contents → Contents) 
   read_err e f = subst (λ u. Read counts with u (Err e) at before after) f refl
 
 module _ {X N : Type 0} (counts : X → N) (with : X → Contents → Contents) (at : ℕ) (before after : Contents) where
-  apart : (n : N) (e : Refusal) → ◌≡◌ {A = Result N Refusal} (Ok n) (Err e) → ⊥
-  apart n e h = let z : ◌≡◌ {A = ℕ} 0 1 = cc in omega arith
-
   pub read_yes : (t : Told X) (n : N) → Read counts with t (Ok n) at before after → (x : X) × (Ok (x, at) ≡ t) × (n ≡ counts x) × (after ≡ with x before)
   read_yes (Ok x) n h = let here = h.0 in let count : n ≡ counts x.0 = cc in (x.0, ap (λ p. Ok (x.0, p)) h.1, count, h.2)
-  read_yes (Err e) n h = absurd (apart n e h)
+  read_yes (Err e) n h = absurd (err_is_ok e n (sym h))
 
   pub read_no : (t : Told X) (e : Refusal) → Read counts with t (Err e) at before after → Err e ≡ t
-  read_no (Ok x) e h = absurd (apart (counts x.0) e (sym h.0))
+  read_no (Ok x) e h = absurd (err_is_ok e (counts x.0) h.0)
   read_no (Err f) e h = let same : e ≡ f = cc in ap Err same
 
 module _ (t : Told Day) (before after : Contents) where
