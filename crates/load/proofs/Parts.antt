@@ -1,12 +1,16 @@
 -- What a part of the file was read into, by cases.
-use Rattle.std.proofs.Common.{◌≡◌, ℕ, Ok, Err, sym, refl, ap, subst}
+use Rattle.std.proofs.Common.{◌≡◌, ℕ, List, Ok, Err, Result, sym, refl, ap, subst}
 use Rattle.terms.specs.declared.refusal.Refusal.{Refusal}
 use Rattle.terms.proofs.Passed.{err_is_ok}
+use Rattle.std.specs.Result.{IsErrAnd}
+use Rattle.std.proofs.lemmas.Result.{err_from_is_err_and}
+use Rattle.forms.specs.declared.reader.Reader.{Reader}
+use Rattle.load.specs.declared.lists.Lists.{Lists}
 use Rattle.forms.specs.Reads.{Told}
 use Rattle.load.specs.declared.lists.Lengths.{Lengths}
 use Rattle.load.specs.declared.loading.Loaded.{Loaded}
 use Rattle.load.specs.Days.{Day, Contents}
-use Rattle.load.specs.Reading.{Read, with_day}
+use Rattle.load.specs.Reading.{Read, ReadsInto, with_day}
 use Rattle.load.specs.Loading.{next, loaded_of, Kept}
 
 -- lists keep their lengths, one by one
@@ -29,6 +33,10 @@ module _ {X N : Type 0} (counts : X → N) (with : X → Contents → Contents) 
   pub read_no : (t : Told X) (e : Refusal) → Read counts with t (Err e) at before after → Err e ≡ t
   read_no (Ok x) e h = absurd (err_is_ok e (counts x.0) h.0)
   read_no (Err f) e h = let same : e ≡ f = cc in ap Err same
+
+-- a part that ends where one within it was refused
+pub stopped_part : {X N : Type 0} {counts : X → N} {with : X → Contents → Contents} {part : Lengths → List ℕ → ℕ → Told X} {before after : Reader} {lists filled : Lists} (r : Result N Refusal) (e : Refusal) → IsErrAnd r (λ f. f ≡ e) → ReadsInto counts with part before after lists filled (Err e) → ReadsInto counts with part before after lists filled r
+stopped_part r e h m = let p = err_from_is_err_and r h in rw (p.1, p.2) m
 
 module _ (t : Told Day) (before after : Contents) where
   pub day_ok : (day : Day) (q : ℕ) (r : Loaded) → Ok (day, q) ≡ t → r ≡ loaded_of day → after ≡ with_day day before → Kept (next t (λ read. Ok read.0)) (Ok r) before after
