@@ -1,5 +1,5 @@
 -- What was read into a list, by cases; and how many prices a row adds.
-use Rattle.std.proofs.Common.{◌≡◌, ℕ, zero, suc, ◌+◌, ◌-◌, ◌/◌, ◌%◌, ◌<◌, ◌≤◌, leb, List, [], ◌∷◌, ◌++◌, length, get_or, take, drop, ℤ, pos, Ok, Err, Result, sym, refl, ap, ◌∙◌, arith, append_assoc, length-append}
+use Rattle.std.proofs.Common.{◌≡◌, ℕ, zero, suc, ◌+◌, ◌-◌, ◌/◌, ◌%◌, ◌<◌, ◌≤◌, leb, List, [], ◌∷◌, ◌++◌, length, get_or, take, drop, ℤ, pos, Ok, Err, sym, refl, ap, ◌∙◌, arith, append_assoc, length-append}
 use borrow.Rule.Slice.PartMut.{put_mid}
 use Rattle.std.proofs.lemmas.List.{append-nil, take_at, drop_at, drop-drop, length-take-le}
 use Rattle.std.proofs.lemmas.Bool.{le-leb, lt-leb}
@@ -15,16 +15,13 @@ use Rattle.forms.specs.declared.field.Allowed.{Allowed}
 use Rattle.forms.proofs.There.{then_same}
 
 module _ {R : Type 0} (at : ℕ) (before after : List R) where
-  ok_apart : (n : ℕ) (e : Refusal) → ◌≡◌ {A = Result ℕ Refusal} (Ok n) (Err e) → ⊥
-  ok_apart n e h = let z : ◌≡◌ {A = ℕ} 0 1 = cc in omega arith
-
   -- a list that was filled holds what was read
   pub listed_yes : (t : Told (List R)) (n : ℕ) → Listed t (Ok n) at before after → (xs : List R) × (Ok (xs, at) ≡ t) × (n ≡ length xs) × (after ≡ xs ++ drop (length xs) before)
   listed_yes (Ok x) n h = let here = h.0 in let count : n ≡ length x.0 = cc in (x.0, ap (λ p. Ok (x.0, p)) h.1, count, h.2)
-  listed_yes (Err e) n h = absurd (ok_apart n e h)
+  listed_yes (Err e) n h = absurd (err_ok n e (sym h))
 
   pub listed_no : (t : Told (List R)) (e : Refusal) → Listed t (Err e) at before after → Err e ≡ t
-  listed_no (Ok x) e h = absurd (ok_apart (length x.0) e (sym h.0))
+  listed_no (Ok x) e h = absurd (err_ok (length x.0) e h.0)
   listed_no (Err f) e h = let same : e ≡ f = cc in ap Err same
 
 -- a list of which a part was filled, from a place on

@@ -6,7 +6,10 @@ use Rattle.std.proofs.lemmas.Bool.{ltb-true, and_parts, true≢false}
 use Rattle.terms.specs.declared.refusal.Refusal.{Refusal}
 use Rattle.terms.specs.declared.refusal.Refusal.TheVariants.{Malformed, OutsideField, WrongForm}
 use Rattle.text.specs.Numbers.{number_at}
-use Rattle.forms.specs.Moves.{holding}
+use Rattle.std.specs.Result.{IsErrAnd}
+use Rattle.std.proofs.lemmas.Result.{err_from_is_err_and}
+use Rattle.forms.specs.declared.reader.Reader.{Reader}
+use Rattle.forms.specs.Moves.{Moves, holding}
 use Rattle.forms.specs.Reads.{Told, told, then, given, is_head, spaces, stands, behind, byte_in, number_in, field_in, open_in, fits_head, head_in, begins, outer_in, close_in}
 use Rattle.forms.specs.declared.field.Allowed.{Allowed}
 use Rattle.forms.specs.Fields.{allows, Asked}
@@ -117,3 +120,10 @@ given_yes t e u v h f = f ∙ ap (λ b. given b e v) h
 
 pub given_no : {X : Type 0} (t : Bool) (e : Refusal) (v : Told X) → false ≡ t → Err e ≡ given t e v
 given_no t e v h = ap (λ b. given b e v) h
+
+-- a step that ends where one within it was refused
+pub stopped : {X : Type 0} {reads : List ℕ → ℕ → Told X} {before after : Reader} (r : Result X Refusal) (e : Refusal) → IsErrAnd r (λ f. f ≡ e) → Moves reads before after (Err e) → Moves reads before after r
+stopped r e h m = let p = err_from_is_err_and r h in rw (p.1, p.2) m
+
+pub stopped_list : {X R : Type 0} {reads : List ℕ → ℕ → Told (List R)} {before after : Reader} (r : Result X Refusal) (xs : List R) (e : Refusal) → IsErrAnd r (λ f. f ≡ e) → Moves reads before after (Err e) → Moves reads before after (holding r xs)
+stopped_list r xs e h m = let p = err_from_is_err_and r h in rw (p.1, p.2) m

@@ -1,11 +1,16 @@
 -- What a part of the file was read into, by cases.
-use Rattle.std.proofs.Common.{◌≡◌, ℕ, Ok, Err, Result, sym, refl, ap, subst, arith}
+use Rattle.std.proofs.Common.{◌≡◌, ℕ, List, Ok, Err, Result, sym, refl, ap, subst}
 use Rattle.terms.specs.declared.refusal.Refusal.{Refusal}
+use Rattle.terms.proofs.Passed.{err_is_ok}
+use Rattle.std.specs.Result.{IsErrAnd}
+use Rattle.std.proofs.lemmas.Result.{err_from_is_err_and}
+use Rattle.forms.specs.declared.reader.Reader.{Reader}
+use Rattle.load.specs.declared.lists.Lists.{Lists}
 use Rattle.forms.specs.Reads.{Told}
 use Rattle.load.specs.declared.lists.Lengths.{Lengths}
 use Rattle.load.specs.declared.loading.Loaded.{Loaded}
 use Rattle.load.specs.Days.{Day, Contents}
-use Rattle.load.specs.Reading.{Read, with_day}
+use Rattle.load.specs.Reading.{Read, ReadsInto, with_day}
 use Rattle.load.specs.Loading.{next, loaded_of, Kept}
 
 -- lists keep their lengths, one by one
@@ -21,16 +26,17 @@ module _ {X N : Type 0} (counts : X → N) (with : X → Contents → Contents) 
   read_err e f = subst (λ u. Read counts with u (Err e) at before after) f refl
 
 module _ {X N : Type 0} (counts : X → N) (with : X → Contents → Contents) (at : ℕ) (before after : Contents) where
-  apart : (n : N) (e : Refusal) → ◌≡◌ {A = Result N Refusal} (Ok n) (Err e) → ⊥
-  apart n e h = let z : ◌≡◌ {A = ℕ} 0 1 = cc in omega arith
-
   pub read_yes : (t : Told X) (n : N) → Read counts with t (Ok n) at before after → (x : X) × (Ok (x, at) ≡ t) × (n ≡ counts x) × (after ≡ with x before)
   read_yes (Ok x) n h = let here = h.0 in let count : n ≡ counts x.0 = cc in (x.0, ap (λ p. Ok (x.0, p)) h.1, count, h.2)
-  read_yes (Err e) n h = absurd (apart n e h)
+  read_yes (Err e) n h = absurd (err_is_ok e n (sym h))
 
   pub read_no : (t : Told X) (e : Refusal) → Read counts with t (Err e) at before after → Err e ≡ t
-  read_no (Ok x) e h = absurd (apart (counts x.0) e (sym h.0))
+  read_no (Ok x) e h = absurd (err_is_ok e (counts x.0) h.0)
   read_no (Err f) e h = let same : e ≡ f = cc in ap Err same
+
+-- a part that ends where one within it was refused
+pub stopped_part : {X N : Type 0} {counts : X → N} {with : X → Contents → Contents} {part : Lengths → List ℕ → ℕ → Told X} {before after : Reader} {lists filled : Lists} (r : Result N Refusal) (e : Refusal) → IsErrAnd r (λ f. f ≡ e) → ReadsInto counts with part before after lists filled (Err e) → ReadsInto counts with part before after lists filled r
+stopped_part r e h m = let p = err_from_is_err_and r h in rw (p.1, p.2) m
 
 module _ (t : Told Day) (before after : Contents) where
   pub day_ok : (day : Day) (q : ℕ) (r : Loaded) → Ok (day, q) ≡ t → r ≡ loaded_of day → after ≡ with_day day before → Kept (next t (λ read. Ok read.0)) (Ok r) before after

@@ -80,15 +80,12 @@ module _ (given : Lengths) (text : List ℕ) where
       judged_day d f = sym (by_day (day_in given text) d f) ∙ behind_text
 
 module _ (lists after : Contents) where
-  apart : (r : Loaded) (e : Refusal) → ◌≡◌ {A = Result Loaded Refusal} (Ok r) (Err e) → ⊥
-  apart r e h = let z : ◌≡◌ {A = ℕ} 0 1 = cc in omega arith
-
   pub kept_yes : (t : Result Day Refusal) (r : Loaded) → Kept t (Ok r) lists after → (d : Day) × (t ≡ Ok d) × (r ≡ loaded_of d) × (after ≡ with_day d lists)
   kept_yes (Ok d) r h = let here = h.0 in let same : r ≡ loaded_of d = cc in (d, refl, same, h.1)
-  kept_yes (Err e) r h = absurd (apart r e h)
+  kept_yes (Err e) r h = absurd (err_is_ok e r (sym h))
 
   pub kept_no : (t : Result Day Refusal) (e : Refusal) → Kept t (Err e) lists after → t ≡ Err e
-  kept_no (Ok d) e h = absurd (apart (loaded_of d) e (sym h.0))
+  kept_no (Ok d) e h = absurd (err_is_ok e (loaded_of d) h.0)
   kept_no (Err f) e h = let same : f ≡ e = cc in ap Err same
 
   pub keeps : (t : Result Day Refusal) (d : Day) (r : Loaded) → Ok d ≡ t → r ≡ loaded_of d → after ≡ with_day d lists → Kept t (Ok r) lists after

@@ -1,32 +1,29 @@
 use Rattle.std.proofs.Common.{◌≡◌, leb, length, Err, refl, ap, ◌∙◌, arith}
-use Rattle.std.proofs.lemmas.Result.{err_from_is_err_and}
 use Rattle.terms.specs.declared.refusal.Refusal.TheVariants.{WrongForm}
 use Rattle.forms.proofs.Told.{then_ok, then_err, given_yes, given_no}
 use Rattle.forms.proofs.RowTurns.{listed_yes, listed_no}
 use Rattle.kinds.specs.Formats.{order_format}
 use Rattle.load.specs.Reading.{any_at, end_in, book_in}
-use Rattle.load.proofs.Parts.{all_long, read_ok, read_err}
+use Rattle.load.proofs.Parts.{all_long, read_ok, read_err, stopped_part}
 use Rattle.load.proofs.reading.book.Goals as goal
 
 pub returns-in_err-held : goal.returns-in_err-held
 unfolding book_in
 returns-in_err-held c =
     let held-long : length c.list.new.out ≡ length c.args.lists.now.held.now = omega arith in
-    let p = err_from_is_err_and c.from_residual.result c.from_residual.ensures.1 in
     let tells = c.in_err-held.ensures in
-    rw (p.1, p.2) (record { answer = read_err _ _ _ _ _ _ _ (then_err _ _ _ (listed_no _ _ _ _ _ tells.answer)); long = all_long refl refl refl refl refl held-long refl; same = tells.same })
+    stopped_part _ _ c.from_residual.ensures.1 (record { answer = read_err _ _ _ _ _ _ _ (then_err _ _ _ (listed_no _ _ _ _ _ tells.answer)); long = all_long refl refl refl refl refl held-long refl; same = tells.same })
 
 pub returns-in_err-orders : goal.returns-in_err-orders
 unfolding book_in
 returns-in_err-orders c =
     let held-long : length c.list.new.out ≡ length c.args.lists.now.held.now = omega arith in
     let orders_long : length c.list-2.new.out ≡ length c.args.lists.now.orders.now = omega arith in
-    let p = err_from_is_err_and c.from_residual-in_err-orders.result c.from_residual-in_err-orders.ensures.1 in
     let first = c.in_ok-held.ensures in
     let held = listed_yes _ _ _ _ _ first.answer in
     let tells = c.in_err-orders.ensures in
     let next = listed_no _ _ _ _ _ tells.answer ∙ ap (λ t. any_at order_format t (length c.args.lists.now.orders.now) c.list.new.self.at) first.same in
-    rw (p.1, p.2) (record { answer = read_err _ _ _ _ _ _ _ (then_ok _ _ _ _ _ held.1 (then_err _ _ _ next)); long = all_long refl refl refl refl refl held-long orders_long; same = tells.same ∙ first.same })
+    stopped_part _ _ c.from_residual-in_err-orders.ensures.1 (record { answer = read_err _ _ _ _ _ _ _ (then_ok _ _ _ _ _ held.1 (then_err _ _ _ next)); long = all_long refl refl refl refl refl held-long orders_long; same = tells.same ∙ first.same })
 
 pub returns-then-is_at_end : goal.returns-then-is_at_end
 unfolding book_in end_in

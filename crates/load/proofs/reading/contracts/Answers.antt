@@ -1,21 +1,19 @@
 use Rattle.std.proofs.Common.{◌≡◌, ◌*◌, [], length, sym, refl, ap, ◌∙◌, arith}
-use Rattle.std.proofs.lemmas.Result.{err_from_is_err_and}
 use Rattle.forms.specs.Rows.{rows_in}
 use Rattle.forms.proofs.Told.{then_ok, then_err}
 use Rattle.forms.proofs.RowTurns.{listed_yes, listed_no}
 use Rattle.load.specs.declared.lists.Lengths.{Lengths}
 use Rattle.load.specs.Days.{contents_of, lengths_of}
 use Rattle.load.specs.Reading.{over, contracts_in}
-use Rattle.load.proofs.Parts.{read_ok, read_err, read_yes, read_no}
+use Rattle.load.proofs.Parts.{read_ok, read_err, read_yes, read_no, stopped_part}
 use Rattle.load.proofs.Rooms.{lines_room}
 use Rattle.load.proofs.reading.contracts.Goals as goal
 
 pub returns-in_err-futures : goal.returns-in_err-futures
 unfolding contracts_in
 returns-in_err-futures c =
-    let p = err_from_is_err_and c.from_residual.result c.from_residual.ensures.1 in
     let tells = c.in_err-futures.ensures in
-    rw (p.1, p.2) (record { answer = read_err _ _ _ _ _ _ _ (then_err _ _ _ (read_no _ _ _ _ _ _ _ tells.answer)); long = tells.long; same = tells.same })
+    stopped_part _ _ c.from_residual.ensures.1 (record { answer = read_err _ _ _ _ _ _ _ (then_err _ _ _ (read_no _ _ _ _ _ _ _ tells.answer)); long = tells.long; same = tells.same })
 
 pub overflow_mul-options : goal.overflow_mul-options
 overflow_mul-options c =
@@ -28,7 +26,6 @@ pub returns-in_err-prices : goal.returns-in_err-prices
 unfolding contracts_in
 returns-in_err-prices c =
     let prices_long : length c.rows.new.out ≡ length c.lines.new.lists.prices.now = omega arith in
-    let p = err_from_is_err_and c.from_residual-in_err-prices.result c.from_residual-in_err-prices.ensures.1 in
     let first = c.in_ok-futures.ensures in
     let lines = read_yes _ _ _ _ _ _ _ first.answer in
     let tells = c.in_err-prices.ensures in
@@ -38,7 +35,7 @@ returns-in_err-prices c =
     listed_no _ _ _ _ _ tells.answer
     ∙ (λ i. rows_in (lines.2 i).0 half (first.same i) (length (lines.3 i).prices) (7 * (lines.2 i).1) 0 [] at)
     in
-    rw (p.1, p.2) (record { answer = read_err _ _ _ _ _ _ _ (then_ok _ _ _ _ _ lines.1 (then_err _ _ _ next)); long = (λ i. record { families = (first.long i).families; baskets = (first.long i).baskets; months = (first.long i).months; lines = (first.long i).lines; prices = (prices_long ∙ ap (λ (l : Lengths). l.prices) first.long) i; held = (first.long i).held; orders = (first.long i).orders }); same = tells.same ∙ first.same })
+    stopped_part _ _ c.from_residual-in_err-prices.ensures.1 (record { answer = read_err _ _ _ _ _ _ _ (then_ok _ _ _ _ _ lines.1 (then_err _ _ _ next)); long = (λ i. record { families = (first.long i).families; baskets = (first.long i).baskets; months = (first.long i).months; lines = (first.long i).lines; prices = (prices_long ∙ ap (λ (l : Lengths). l.prices) first.long) i; held = (first.long i).held; orders = (first.long i).orders }); same = tells.same ∙ first.same })
 
 pub returns : goal.returns
 unfolding contracts_in

@@ -1,10 +1,9 @@
 use Rattle.std.proofs.Common.{◌≡◌, ◌-◌, length, take, drop, sym, refl, ap, ◌∙◌, arith, length-append}
-use Rattle.std.proofs.lemmas.Result.{err_from_is_err_and}
 use Rattle.forms.proofs.Told.{then_ok, then_err}
 use Rattle.forms.proofs.RowTurns.{listed_yes, listed_no}
 use Rattle.kinds.specs.Formats.{option_format}
 use Rattle.load.specs.Reading.{over, any_at, lines_in}
-use Rattle.load.proofs.Parts.{all_long, read_ok, read_err}
+use Rattle.load.proofs.Parts.{all_long, read_ok, read_err, stopped_part}
 use Rattle.load.proofs.Rooms.{take_over, drop_over, over_both}
 use Rattle.load.proofs.reading.lines.Goals as goal
 
@@ -12,9 +11,8 @@ pub returns-in_err-futures : goal.returns-in_err-futures
 unfolding lines_in
 returns-in_err-futures c =
     let lines_long : length c.some.new.out ≡ length c.args.lists.now.lines.now = omega arith in
-    let p = err_from_is_err_and c.from_residual.result c.from_residual.ensures.1 in
     let tells = c.in_err-futures.ensures in
-    rw (p.1, p.2) (record { answer = read_err _ _ _ _ _ _ _ (then_err _ _ _ (listed_no _ _ _ _ _ tells.answer)); long = all_long refl refl refl lines_long refl refl refl; same = tells.same })
+    stopped_part _ _ c.from_residual.ensures.1 (record { answer = read_err _ _ _ _ _ _ _ (then_err _ _ _ (listed_no _ _ _ _ _ tells.answer)); long = all_long refl refl refl lines_long refl refl refl; same = tells.same })
 
 pub options_behind-requires : goal.options_behind-requires
 options_behind-requires c =
@@ -25,14 +23,13 @@ pub returns-in_err-options : goal.returns-in_err-options
 unfolding lines_in
 returns-in_err-options c =
     let lines_long : length c.options_behind.new.lines ≡ length c.args.lists.now.lines.now = omega arith in
-    let p = err_from_is_err_and c.from_residual-in_err-options.result c.from_residual-in_err-options.ensures.1 in
     let first = c.in_ok-futures.ensures in
     let futures = listed_yes _ _ _ _ _ first.answer in
     let tells = c.in_err-options.ensures.behind in
     let at = c.some.new.reader.at in
     let room : length c.some.new.out - c.in_ok-futures.futures ≡ length c.args.lists.now.lines.now - length futures.0 = omega (arith, futures.2) in
     let next = listed_no _ _ _ _ _ tells.answer ∙ ap (λ n. any_at option_format c.some.new.reader.text.now n at) room ∙ ap (λ t. any_at option_format t (length c.args.lists.now.lines.now - length futures.0) at) first.same in
-    rw (p.1, p.2) (record { answer = read_err _ _ _ _ _ _ _ (then_ok _ _ _ _ _ futures.1 (then_err _ _ _ next)); long = all_long refl refl refl lines_long refl refl refl; same = tells.same ∙ first.same })
+    stopped_part _ _ c.from_residual-in_err-options.ensures.1 (record { answer = read_err _ _ _ _ _ _ _ (then_ok _ _ _ _ _ futures.1 (then_err _ _ _ next)); long = all_long refl refl refl lines_long refl refl refl; same = tells.same ∙ first.same })
 
 pub returns : goal.returns
 unfolding lines_in

@@ -1,8 +1,8 @@
 use Rattle.std.proofs.Common.{get_or, refl, ap, ◌∙◌}
-use Rattle.std.proofs.lemmas.Result.{err_from_is_err_and}
 use Rattle.forms.specs.Fields.{asked}
 use Rattle.forms.specs.Reads.{inner_in, inners_in}
 use Rattle.forms.proofs.Turns.{inners_more, inners_break, inners_end, no_field}
+use Rattle.forms.proofs.Told.{stopped}
 use Rattle.forms.proofs.reader.Reader.all_inner.Goals as goal
 
 pub loop-inner-init : goal.loop-inner-init
@@ -15,10 +15,9 @@ loop-inner-init g c =
 
 pub returns-in_err-filled : goal.returns-in_err-filled
 returns-in_err-filled g c =
-    let p = err_from_is_err_and c.from_residual.result c.from_residual.ensures.1 in
     let tells = c.in_err-filled.ensures in
     let here = tells.answer ∙ ap (λ t. inner_in (g.K.Kind.filled c.loop-inner.inner) (asked (get_or c.inner_forms-field-items.result.now c.loop-inner.inner no_field)) t c.loop-inner.filled c.loop-inner.self.at) c.loop-inner.invariant.0 in
-    rw (p.1, p.2) (record {
+    stopped _ _ c.from_residual.ensures.1 (record {
       answer = inners_break _ _ _ _ _ _ no_field _ c.loop-inner-test.true here ∙ c.loop-inner.invariant.1;
       same = tells.same ∙ c.loop-inner.invariant.0;
     })

@@ -1,7 +1,6 @@
 use Rattle.std.proofs.Common.{refl, ap, ◌∙◌}
-use Rattle.std.proofs.lemmas.Result.{err_from_is_err_and}
 use Rattle.forms.specs.Reads.{byte_in}
-use Rattle.forms.proofs.Told.{then_ok, then_err, close_more, close_too_many}
+use Rattle.forms.proofs.Told.{then_ok, then_err, close_more, close_too_many, stopped}
 use Rattle.forms.proofs.reader.Reader.close_line.Goals as goal
 
 pub returns-then-stands_here : goal.returns-then-stands_here
@@ -9,9 +8,8 @@ returns-then-stands_here c = record { answer = close_too_many _ _ c.if-stands_he
 
 pub returns-in_err-expect : goal.returns-in_err-expect
 returns-in_err-expect c =
-    let p = err_from_is_err_and c.from_residual.result c.from_residual.ensures.1 in
     let tells = c.in_err-expect.ensures in
-    rw (p.1, p.2) (record { answer = close_more _ _ _ c.if-stands_here.ensures (then_err _ _ _ tells.answer); same = tells.same })
+    stopped _ _ c.from_residual.ensures.1 (record { answer = close_more _ _ _ c.if-stands_here.ensures (then_err _ _ _ tells.answer); same = tells.same })
 
 pub returns : goal.returns
 returns c =

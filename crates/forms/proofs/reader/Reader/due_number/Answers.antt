@@ -1,19 +1,17 @@
 use Rattle.std.proofs.Common.{◌≡◌, true, false, get_or, pos, refl, ◌∙◌, w64, SFits, rules}
 use Rattle.std.proofs.lemmas.Int.{to_z-of_z}
-use Rattle.std.proofs.lemmas.Result.{err_from_is_err_and}
 use Rattle.forms.specs.Fields.{asked}
 use Rattle.forms.specs.Rows.{is_due, due_in}
-use Rattle.forms.proofs.Told.{then_ok, then_err, given_yes, given_no}
+use Rattle.forms.proofs.Told.{then_ok, then_err, given_yes, given_no, stopped}
 use Rattle.forms.proofs.RowTurns.{inner_alone, one_read, none_read}
 use Rattle.forms.proofs.reader.Reader.due_number.Goals as goal
 
 pub returns-in_err-inner_numbers : goal.returns-in_err-inner_numbers
 unfolding due_in
 returns-in_err-inner_numbers c =
-    let p = err_from_is_err_and c.from_residual.result c.from_residual.ensures.1 in
     let tells = c.in_err-inner_numbers.ensures in
     let here = none_read _ _ _ (tells.answer ∙ inner_alone (asked c.args.field.now) _ _ c.requires) in
-    rw (p.1, p.2) (record { answer = then_err _ _ _ here; same = tells.same })
+    stopped _ _ c.from_residual.ensures.1 (record { answer = then_err _ _ _ here; same = tells.same })
 
 pub returns-then-is_due : goal.returns-then-is_due
 unfolding due_in

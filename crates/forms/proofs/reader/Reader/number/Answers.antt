@@ -1,15 +1,13 @@
 use Rattle.std.proofs.Common.{◌≡◌, true, false, Ok, sym, ap, ◌∙◌, w64, SFits, rules}
 use Rattle.forms.specs.Fields.{allows}
 use Rattle.std.proofs.lemmas.Int.{to_z-of_z}
-use Rattle.std.proofs.lemmas.Result.{err_from_is_err_and}
-use Rattle.forms.proofs.Told.{field_ok, field_out, field_err}
+use Rattle.forms.proofs.Told.{field_ok, field_out, field_err, stopped}
 use Rattle.forms.proofs.reader.Reader.number.Goals as goal
 
 pub returns-in_err-value : goal.returns-in_err-value
 returns-in_err-value c =
-    let p = err_from_is_err_and c.from_residual.result c.from_residual.ensures.1 in
     let told = c.in_err-value.ensures in
-    rw (p.1, p.2) (record { answer = field_err _ _ _ _ told.answer; same = told.same })
+    stopped _ _ c.from_residual.ensures.1 (record { answer = field_err _ _ _ _ told.answer; same = told.same })
 
 pub returns-then-takes : goal.returns-then-takes
 returns-then-takes c =

@@ -1,8 +1,8 @@
 use Rattle.std.proofs.Common.{◌≡◌, ◌+◌, ◌-◌, refl, ap, ◌∙◌, arith, w64, SFits, rules}
 use Rattle.std.proofs.lemmas.Int.{to_z-of_z}
-use Rattle.std.proofs.lemmas.Result.{err_from_is_err_and}
 use Rattle.forms.specs.Reads.{spaced_in, numbers_in}
 use Rattle.forms.proofs.Turns.{numbers_more, numbers_break, numbers_end}
+use Rattle.forms.proofs.Told.{stopped}
 use Rattle.forms.proofs.reader.Reader.numbers.Goals as goal
 
 pub loop-index-init : goal.loop-index-init
@@ -12,10 +12,9 @@ loop-index-init g c =
 
 pub returns-in_err-value : goal.returns-in_err-value
 returns-in_err-value g c =
-    let p = err_from_is_err_and c.from_residual.result c.from_residual.ensures.1 in
     let tells = c.in_err-value.ensures in
     let here = tells.answer ∙ ap (λ t. spaced_in c.args.field.now.allowed t c.loop-index.self.at) c.loop-index.invariant.0 in
-    rw (p.1, p.2) (record {
+    stopped _ _ c.from_residual.ensures.1 (record {
       answer = numbers_break _ _ _ _ _ _ _ _ c.loop-index-test.true here ∙ c.loop-index.invariant.1;
       same = tells.same ∙ c.loop-index.invariant.0;
     })

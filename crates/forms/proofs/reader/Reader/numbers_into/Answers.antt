@@ -1,10 +1,10 @@
 use Rattle.std.proofs.Common.{◌≡◌, ◌+◌, ◌-◌, ◌<◌, [], ◌∷◌, ◌++◌, Ok, take, sym, refl, ap, ◌∙◌, arith, w64, SFits, to_z, of_z, rules}
 use Rattle.std.proofs.lemmas.Int.{to_z-of_z}
-use Rattle.std.proofs.lemmas.Result.{err_from_is_err_and}
 use Rattle.std.proofs.lemmas.List.{take_more_set, take_all}
 use Rattle.forms.specs.Reads.{spaced_in, numbers_in}
 use Rattle.forms.specs.Rows.{added}
 use Rattle.forms.proofs.Turns.{numbers_more, numbers_break, numbers_end}
+use Rattle.forms.proofs.Told.{stopped_list}
 use Rattle.forms.proofs.reader.Reader.numbers_into.Goals as goal
 
 pub loop-price-init : goal.loop-price-init
@@ -14,11 +14,10 @@ loop-price-init c =
 
 pub returns-in_err-price : goal.returns-in_err-price
 returns-in_err-price c =
-    let p = err_from_is_err_and c.from_residual.result c.from_residual.ensures.1 in
     let tells = c.in_err-price.ensures in
     let inside : c.loop-price.price-index < c.args.field.now.count = omega arith in
     let here = tells.answer ∙ ap (λ t. spaced_in c.args.field.now.allowed t c.loop-price.self.at) c.loop-price.invariant.0 in
-    rw (p.1, p.2) (record { answer = numbers_break _ _ _ _ _ _ _ _ inside here ∙ c.loop-price.invariant.1; same = tells.same ∙ c.loop-price.invariant.0 })
+    stopped_list _ _ _ c.from_residual.ensures.1 (record { answer = numbers_break _ _ _ _ _ _ _ _ inside here ∙ c.loop-price.invariant.1; same = tells.same ∙ c.loop-price.invariant.0 })
 
 pub loop-price-preserved : goal.loop-price-preserved
 loop-price-preserved c =

@@ -1,7 +1,6 @@
 use Rattle.std.proofs.Common.{refl, ap, ◌∙◌}
-use Rattle.std.proofs.lemmas.Result.{err_from_is_err_and}
 use Rattle.forms.specs.Reads.{byte_in}
-use Rattle.forms.proofs.Told.{then_ok, then_err, open_missing, open_more}
+use Rattle.forms.proofs.Told.{then_ok, then_err, open_missing, open_more, stopped}
 use Rattle.forms.proofs.reader.Reader.open_inner.Goals as goal
 
 pub returns-then-stands_here : goal.returns-then-stands_here
@@ -9,17 +8,15 @@ returns-then-stands_here c = record { answer = open_missing _ _ c.if-stands_here
 
 pub returns-in_err-expect : goal.returns-in_err-expect
 returns-in_err-expect c =
-    let p = err_from_is_err_and c.from_residual.result c.from_residual.ensures.1 in
     let tells = c.in_err-expect.ensures in
-    rw (p.1, p.2) (record { answer = open_more _ _ _ c.if-stands_here.ensures (then_err _ _ _ tells.answer); same = tells.same })
+    stopped _ _ c.from_residual.ensures.1 (record { answer = open_more _ _ _ c.if-stands_here.ensures (then_err _ _ _ tells.answer); same = tells.same })
 
 pub returns-in_err-expect-2 : goal.returns-in_err-expect-2
 returns-in_err-expect-2 c =
-    let p = err_from_is_err_and c.from_residual-in_err-expect-2.result c.from_residual-in_err-expect-2.ensures.1 in
     let first = c.in_ok-expect.ensures in
     let tells = c.in_err-expect-2.ensures in
     let next = tells.answer ∙ ap (λ t. byte_in 40 t c.expect.new.self.at) first.same in
-    rw (p.1, p.2) (record { answer = open_more _ _ _ c.if-stands_here.ensures (then_ok _ _ _ _ _ first.answer (then_err _ _ _ next)); same = tells.same ∙ first.same })
+    stopped _ _ c.from_residual-in_err-expect-2.ensures.1 (record { answer = open_more _ _ _ c.if-stands_here.ensures (then_ok _ _ _ _ _ first.answer (then_err _ _ _ next)); same = tells.same ∙ first.same })
 
 pub returns : goal.returns
 returns c =

@@ -1,15 +1,13 @@
 use Rattle.std.proofs.Common.{ap, ◌∙◌}
-use Rattle.std.proofs.lemmas.Result.{err_from_is_err_and}
 use Rattle.forms.specs.Reads.{spaced_in, field_in}
-use Rattle.forms.proofs.Told.{then_ok, then_err}
+use Rattle.forms.proofs.Told.{then_ok, then_err, stopped}
 use Rattle.forms.proofs.reader.Reader.spaced_number.Goals as goal
 
 pub returns-in_err-expect : goal.returns-in_err-expect
 unfolding spaced_in
 returns-in_err-expect c =
-    let p = err_from_is_err_and c.from_residual.result c.from_residual.ensures.1 in
     let tells = c.in_err-expect.ensures in
-    rw (p.1, p.2) (record { answer = then_err _ _ _ tells.answer; same = tells.same })
+    stopped _ _ c.from_residual.ensures.1 (record { answer = then_err _ _ _ tells.answer; same = tells.same })
 
 pub returns : goal.returns
 unfolding spaced_in
