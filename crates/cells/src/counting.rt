@@ -45,7 +45,7 @@ impl<'a, B: Bank> Desk<'a, B> {
         self.quote(order.open.line, p, k).order_loses(order)
     }
 
-    // The same in a column that may not be kept.
+    // The same in a column that may not be kept. By `is_some_and` the check finds no proof.
     fn loses_in(&self, order: OpenOrder, p: usize, column: Option<usize>) -> bool
         ensures { result ≡ order_loses_in (B.Bank.meaning self.now.bank.now).price order.open p column }
     {

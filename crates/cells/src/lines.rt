@@ -11,7 +11,7 @@ use crate::desk::Desk;
 use banks::bank::Bank;
 
 impl<'a, B: Bank> Desk<'a, B> {
-    // What a future is charged at a point, where a column holds prices.
+    // What a future is charged at a point, where a column holds prices. Two tests: after one `||` no proof knows which of them held.
     fn charged(&self, line: usize, point: usize, column: usize) -> i64
         ensures value { result ≡ charged self.now.last (deck_cards self.now.deck.now) (book_of self.now.book) line point column }
         ensures size { unsigned_abs result ≤ 1088000000000000000 }

@@ -1,6 +1,7 @@
 // Prints the scenario sheet of two futures and an option, and of the same option in a contract of twice the size; and what must
 // be blocked for a calendar spread of the futures with open orders, and the world handed out with it. The futures come from
 // their cards, the option from a table of prices, and the whole is one bank.
+// What prints the rows stands in `sheet` too: in a library it would be public functions of which no contract could say what they print.
 #![tactic(auto)]
 
 use banks::bank::Bank;

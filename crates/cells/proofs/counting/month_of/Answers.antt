@@ -1,4 +1,4 @@
-use Rattle.std.proofs.Common.{◌≡◌, ap, ◌∙◌, rules}
+use Rattle.std.proofs.Common.{◌≡◌, ap, rules}
 use Rattle.terms.specs.declared.cards.Line.{Line}
 use Rattle.margin.specs.Book.{named, line}
 use Rattle.deck.specs.Decks.{deck_cards}
