@@ -1,5 +1,5 @@
 use Rattle.std.proofs.Common.{pos}
-use Rattle.cells.proofs.Made.{each_made}
+use Rattle.banks.proofs.Made.{each_made}
 use Rattle.cells.proofs.desk.table_of.Goals as goal
 
 pub returns : goal.returns

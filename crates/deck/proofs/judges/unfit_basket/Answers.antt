@@ -2,7 +2,7 @@ use Rattle.std.proofs.Common.{not, rules, tests}
 use Rattle.std.proofs.lemmas.Iterator.{YieldsList-from_slice}
 use Rattle.std.proofs.lemmas.Iterator.Search.{position_from_yields_List}
 use Rattle.deck.specs.Judgements.{basket_fits}
-use Rattle.deck.proofs.Positions.{failing_anywhere}
+use Rattle.terms.proofs.Positions.{failing_anywhere}
 use Rattle.deck.proofs.judges.unfit_basket.Goals as goal
 
 pub returns-clause-value : goal.returns-clause-value

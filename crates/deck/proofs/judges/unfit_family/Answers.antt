@@ -2,7 +2,7 @@ use Rattle.std.proofs.Common.{not, rules, tests}
 use Rattle.std.proofs.lemmas.Iterator.{YieldsList-from_slice}
 use Rattle.std.proofs.lemmas.Iterator.Search.{position_from_yields_List}
 use Rattle.deck.specs.Judgements.{family_fits}
-use Rattle.deck.proofs.Positions.{failing_anywhere}
+use Rattle.terms.proofs.Positions.{failing_anywhere}
 use Rattle.deck.proofs.judges.unfit_family.Goals as goal
 
 pub returns-clause-value : goal.returns-clause-value

@@ -3,7 +3,7 @@ use Rattle.std.proofs.lemmas.Iterator.{YieldsList-from_slice}
 use Rattle.std.proofs.lemmas.Iterator.Consumers.{YieldsList-from_enumerate}
 use Rattle.std.proofs.lemmas.Iterator.Search.{position_from_yields_List}
 use Rattle.deck.specs.Judgements.{held_fits}
-use Rattle.deck.proofs.Positions.{failing_enumerated}
+use Rattle.terms.proofs.Positions.{failing_enumerated}
 use Rattle.deck.proofs.judges.unfit_record.Goals as goal
 
 pub returns-clause-value : goal.returns-clause-value

@@ -5,7 +5,7 @@ use Rattle.margin.specs.Worlds.{nowhere}
 use Rattle.deck.specs.Decks.{deck_cards}
 use Rattle.cells.specs.Books.{book_of}
 use Rattle.cells.specs.Countings.{counted_from}
-use Rattle.cells.proofs.Made.{each_made}
+use Rattle.banks.proofs.Made.{each_made}
 use Rattle.cells.proofs.Uncounted.{none_beyond}
 use Rattle.cells.proofs.desk.Desk.all_counted.Goals as goal
 
