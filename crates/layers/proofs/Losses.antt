@@ -1,5 +1,5 @@
 -- The families' losses, read from a list, and the greatest of them.
-use Rattle.std.proofs.Common.{◌≡◌, ℕ, zero, suc, ◌+◌, ◌-◌, ◌*◌, ◌<◌, ◌≤◌, List, [], ◌∷◌, length, get_or, take, sum, Some, None, Option, sym, refl, ap, ◌∙◌, ap₂, subst, zero-le, arith}
+use Rattle.std.proofs.Common.{◌≡◌, ℕ, zero, suc, ◌-◌, ◌*◌, ◌<◌, ◌≤◌, List, [], ◌∷◌, length, get_or, take, sum, Some, None, Option, sym, refl, ap, ◌∙◌, ap₂, subst, zero-le, arith}
 use Rattle.std.specs.Option.{MatchOption}
 use Rattle.order.specs.Items.{costlier}
 use Rattle.order.specs.Orders.{least_from, first_least}

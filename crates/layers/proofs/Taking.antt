@@ -1,9 +1,9 @@
 -- What is taken and what is left out.
-use Rattle.std.proofs.Common.{◌≡◌, ℕ, zero, suc, ◌+◌, ◌-◌, ◌≤◌, ℤ, Some, None, Option, sym, refl, ap, ◌∙◌, arith}
+use Rattle.std.proofs.Common.{◌≡◌, ℕ, zero, suc, ◌+◌, ◌-◌, ◌≤◌, ℤ, Some, None, Option, sym, ap, ◌∙◌, arith}
 use Rattle.std.specs.Option.{MatchOption, SomeIff, IsSomeAnd}
 use Rattle.margin.specs.declared.choice.Kept.{Kept}
 use Rattle.margin.specs.Book.{Cards, named, basket, month}
-use Rattle.margin.specs.HandedOut.{take_if_below0, column_at, month_in, basket_in, family_point, basket_point, month_kept}
+use Rattle.margin.specs.HandedOut.{column_at, month_in, basket_in, family_point, basket_point, month_kept}
 use Rattle.margin.specs.Layers.{family_result, family_worst}
 use Rattle.margin.proofs.Reached.{take_cases}
 use Rattle.margin.proofs.SumLaws.{least_is}

@@ -1,9 +1,9 @@
 -- The worst within a window, found in a list of the baskets' results; and what a family adds up.
-use Rattle.std.proofs.Common.{◌≡◌, ℕ, ◌+◌, ◌-◌, ◌<◌, ◌≤◌, min, Bool, true, false, List, get_or, ℤ, pos, refl, ap, ◌∙◌, ap₂, zero-add, arith}
+use Rattle.std.proofs.Common.{◌≡◌, ℕ, ◌+◌, ◌-◌, ◌<◌, ◌≤◌, Bool, true, false, List, get_or, ℤ, pos, refl, ap, ◌∙◌, zero-add, arith}
 use lib.Signed.{le_z}
 use Rattle.std.specs.Int.{int_min}
 use Rattle.margin.specs.Book.{Cards, netted_family, window_of, over_baskets}
-use Rattle.margin.specs.Layers.{window_start, window_end, basket_result, worst_within, netted_family_result, half_family_result, family_result, family_worst}
+use Rattle.margin.specs.Layers.{basket_result, worst_within, netted_family_result, half_family_result, family_result, family_worst}
 use Rattle.margin.specs.Sums.{least}
 use Rattle.margin.proofs.SumLaws.{least_same}
 

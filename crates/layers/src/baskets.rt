@@ -76,6 +76,7 @@ impl<'a> Fitted<'a> {
         self.netted_column(b, p).0 + self.sum_over(b, |m| self.curve_result(m, p))
     }
 
+    #[tactic(auto, unfolding(margin::specs::Layers::half_basket_result))]
     fn half_basket_result(&self, b: usize, p: usize) -> i128
         ensures value { result ≡ half_basket_result (cards_of self.now.scene) (cells_of self.now.scene) b p }
         ensures size { unsigned_abs result ≤ 2 ^ 75 }

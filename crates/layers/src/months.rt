@@ -28,6 +28,7 @@ impl<'a> Fitted<'a> {
     }
 
     // The least of 0 and the two rate columns; its place is 0 where neither is taken.
+    #[tactic(auto, unfolding(margin::specs::Layers::rate_result))]
     pub fn rate_result(&self, m: usize, p: usize) -> (i128, usize)
         ensures value { result ≡ rate_result (cells_of self.now.scene) m p }
         ensures size { unsigned_abs result.0 ≤ 2 ^ 70 }
@@ -37,6 +38,7 @@ impl<'a> Fitted<'a> {
     }
 
     // The least of 0 and the two twist columns.
+    #[tactic(auto, unfolding(margin::specs::Layers::twist_result))]
     pub fn twist_result(&self, m: usize, p: usize) -> (i128, usize)
         ensures value { result ≡ twist_result (cells_of self.now.scene) m p }
         ensures size { unsigned_abs result.0 ≤ 2 ^ 70 }

@@ -21,6 +21,7 @@ fn column_at(first: usize, place: usize) -> Option<usize>
 }
 
 // What may be left out is taken only where its result is below 0.
+#[tactic(auto, unfolding(margin::specs::HandedOut::take_if_below0))]
 fn if_below_0<T: Drop>(res: i128, item: T) -> Option<T>
     ensures { result ≡ take_if_below0 res item }
 {

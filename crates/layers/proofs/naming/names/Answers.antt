@@ -1,9 +1,10 @@
-use Rattle.std.proofs.Common.{◌∙◌}
-use Rattle.std.proofs.lemmas.Int.{to_z-of_z}
-use Rattle.layers.proofs.Names.{names_by}
+use Rattle.std.proofs.Common.{◌∙◌, arith}
+use Rattle.std.proofs.lemmas.Int.{ints, to_z-of_z}
+use Rattle.layers.proofs.Names.{names_up, names_down}
 use Rattle.layers.proofs.naming.names.Goals as goal
 
-pub returns : goal.returns
-returns c =
-    let told = simp (to_z-of_z, c.ranges.name) at c.try_from.ensures in
-    c.eq.ensures ∙ names_by c.args.name c.ranges.name c.try_from.result told _ c.args.i
+pub returns-then-name-ge0 : goal.returns-then-name-ge0
+returns-then-name-ge0 c = simp (to_z-of_z, c.ranges.name) (names_up c.args.name c.args.i (grind (arith, ints)))
+
+pub returns-else-name-ge0 : goal.returns-else-name-ge0
+returns-else-name-ge0 c = c.if-name-ge0.false ∙ names_down c.args.name c.args.i (grind (arith, ints))

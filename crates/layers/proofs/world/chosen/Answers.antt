@@ -1,6 +1,5 @@
 use Rattle.std.proofs.Common.{◌≡◌, None, sym, ◌∙◌, arith, rules}
 use native.Mathlib.Decide.{dec_lt}
-use Rattle.margin.specs.HandedOut.{up_to}
 use Rattle.margin.proofs.Reached.{up_to_is}
 use Rattle.layers.proofs.Filling.{choices_made, nothing_beyond}
 use Rattle.layers.proofs.world.chosen.Goals as goal

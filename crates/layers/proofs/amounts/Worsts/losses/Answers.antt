@@ -1,6 +1,5 @@
 use Rattle.std.proofs.Common.{◌≡◌, ℕ, ◌^◌, ◌≤◌, List, [], ◌∷◌, get_or, ℤ, pos, sym, ap, ◌∙◌, ap₂, subst, le_trans, zero-le, arith, rules}
 use Rattle.margin.specs.Layers.{loss_of, family_loss}
-use Rattle.layers.specs.Scenes.{worsts_of}
 use Rattle.layers.proofs.Filling.{made}
 use Rattle.layers.proofs.Losses.{two_items, two_sized}
 use Rattle.layers.proofs.amounts.Worsts.losses.Goals as goal

@@ -1,4 +1,4 @@
-use Rattle.std.proofs.Common.{◌^◌, refl, arith, rules}
+use Rattle.std.proofs.Common.{◌^◌, arith, rules}
 use Rattle.margin.specs.Layers.{basket_result}
 use Rattle.layers.specs.Scenes.{cards_of, cells_of}
 use Rattle.layers.proofs.Filling.{row_made}

@@ -1,7 +1,7 @@
 use Rattle.std.proofs.Common.{◌≡◌, ℕ, ◌*◌, ◌^◌, ◌≤◌, length, get_or, pos, nat_abs, sym, refl, ap, ◌∙◌, arith, lit≤, w64, SFits, to_z, rules}
 use mir.Syntax.{w128}
 use Rattle.std.proofs.lemmas.Int.{ints, to_z-of_z}
-use Rattle.margin.specs.Book.{names, in_basket}
+use Rattle.margin.specs.Book.{in_basket}
 use Rattle.margin.specs.Sums.{total}
 use Rattle.layers.specs.Scenes.{cards_of}
 use Rattle.layers.proofs.Sizes.{taken_in, passed_over}

@@ -1,4 +1,4 @@
-use Rattle.std.proofs.Common.{ℕ, ◌-◌, ℤ, ap₂, ◌∙◌}
+use Rattle.std.proofs.Common.{ℕ, ◌-◌, ap₂, ◌∙◌}
 use lib.Signed.{le_z}
 use Rattle.margin.specs.Layers.{basket_result, worst_within}
 use Rattle.margin.specs.Sums.{least}
