@@ -52,6 +52,8 @@ def functions(text):
                 break
             elif inside:
                 body.append(line)
+            elif line.rstrip() in (" " * indent + "{}", "{}"):
+                break
             elif line.rstrip().endswith(";") and not line.strip().startswith(("requires", "ensures")):
                 break
             elif re.match(r"\s*(requires|ensures)\b", line):
@@ -120,7 +122,7 @@ POINTS = {
 def constants(sources):
     """Constants that have one value, by groups: `GRAINS` and `GRAINS`, `MOST_PRICE` and `MOST_ENTRY`."""
     groups = collections.defaultdict(list)
-    for place in lines_with(sources, r"^(pub )?const \w+: [iu]\w+ = [\d_]+;"):
+    for place in lines_with(sources, r"^(pub(\(crate\))? )?const \w+: [iu]\w+ = [\d_]+;"):
         name, value = re.search(r"const (\w+): \w+ = ([\d_]+);", place).groups()
         groups[value].append(place.split(": ")[0] + " " + name)
     return [f"{value}: " + ", ".join(group) for value, group in groups.items() if len(group) > 1]

@@ -2,13 +2,11 @@
 ghost use Rattle.std.specs.Prelude.{◌≡◌, ◌≤◌, min, unsigned_abs};
 ghost use Rattle.banks.specs.Meanings.{most_reach, on_grid, capped as capped_at};
 
+pub use terms::half::COLUMNS;
 use terms::half::Half;
 
 // How many grains a kopeck has.
 pub const GRAINS: u64 = 80_000;
-
-// The columns of a scenario grid.
-pub const COLUMNS: usize = 7;
 
 // The most lines that a bank may have.
 pub const MOST_LINES: usize = 16;

@@ -1,8 +1,5 @@
 // The bounds of an account's numbers.
 
-// The most orders that are open at once.
-pub(crate) const MOST_ORDERS: usize = 32;
-
 // The most contracts of an order, and of a fill.
 pub(crate) const MOST_CONTRACTS: u64 = 10_000;
 

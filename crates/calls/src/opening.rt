@@ -8,9 +8,10 @@ ghost use Rattle.calls.specs.Accounts.{state_of};
 ghost use Rattle.calls.specs.Begun.{BeginOutcome, CoverOutcome, with_cards};
 
 use crate::accounts::Account;
-use crate::limits::{MOST_COLLATERAL, MOST_ORDERS};
+use crate::limits::MOST_COLLATERAL;
 use crate::trades::Trade;
 use banks::bank::Bank;
+use cells::book::MOST_ORDERS;
 use deck::deck::Deck;
 use deck::given::Given;
 use margin::book::Position;

@@ -8,11 +8,11 @@ ghost use Rattle.account.specs.Account.{Numbered, quantity_fits, book_net_fits, 
 ghost use Rattle.calls.specs.Accounts.{state_of, told_as, margin_with, book_with, trial_checks, judged};
 
 use crate::accounts::Account;
-use crate::limits::{MOST_ACCEPTED, MOST_CONTRACTS, MOST_NET, MOST_ORDERS, MOST_PRICE};
+use crate::limits::{MOST_ACCEPTED, MOST_CONTRACTS, MOST_NET, MOST_PRICE};
 use crate::rests::rests;
 use account::orders::{Order, OrderState};
 use banks::bank::Bank;
-use cells::book::Book;
+use cells::book::{Book, MOST_ORDERS};
 use cells::open::{open_buys, open_sells};
 use cover::margin;
 use margin::book::Open;

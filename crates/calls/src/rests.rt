@@ -2,8 +2,8 @@
 ghost use Rattle.std.specs.Prelude.{◌≡◌, ◌≤◌, map, length, take, slice_index_or};
 ghost use Rattle.calls.specs.Accounts.{rest_of, none_open};
 
-use crate::limits::MOST_ORDERS;
 use account::orders::Order;
+use cells::book::MOST_ORDERS;
 use margin::book::Open;
 use std::array;
 

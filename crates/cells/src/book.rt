@@ -4,6 +4,9 @@ ghost use Rattle.cells.specs.Empty.{no_position, no_order};
 
 use margin::book::{Open, Position};
 
+// The most open orders of a book.
+pub const MOST_ORDERS: usize = 32;
+
 #[derive(Clone, Copy)]
 pub struct Book<'a> {
     // one for each line

@@ -8,12 +8,10 @@ ghost use Rattle.cover.specs.Small.{small_position, small_order, small_book};
 
 use crate::{Blocked, margin};
 use banks::bank::Bank;
-use cells::book::Book;
+use cells::book::{Book, MOST_ORDERS};
 use deck::deck::Deck;
 use margin::book::{Open, Position};
 use terms::cards::between;
-
-const MOST_ORDERS: usize = 32;
 
 // More than any account's costs come to.
 const MOST_COST: i64 = 1 << 56;

@@ -12,8 +12,7 @@ pub mod judged;
 
 use banks::bank::Bank;
 use cells::book::Book;
-use cells::counted_orders;
-use cells::month_cells;
+use cells::{counted_orders, month_cells};
 use deck::deck::Deck;
 use layers::outcome::worked_out;
 use margin::choice::World;

@@ -173,6 +173,18 @@ mod tests {
         assert_eq!(rt; answer.map(|answer| answer.amount), Some(1));
     }
 
+    const KEPT: Kept = Kept {
+        volatility: 0,
+        rate: None,
+        twist: None,
+    };
+
+    const UNCOUNTED: Counted = Counted {
+        volatility: false,
+        rate: false,
+        twist: false,
+    };
+
     // Nothing is held, and an open buy loses at no point: all is left out, and the order counts nowhere.
     #[test]
     fn nothing_lost(rt: HostRuntime) -> Result<(), Fail> {
@@ -186,7 +198,7 @@ mod tests {
         assert_eq!(rt; answer.world.families, [None; 2]);
         assert_eq!(rt; answer.world.baskets, [None; 4]);
         assert_eq!(rt; answer.world.months, [None; 8]);
-        assert_eq!(rt; answer.world.orders, [Counted::default(); 32]);
+        assert_eq!(rt; answer.world.orders, [UNCOUNTED; 32]);
         Ok(())
     }
 
@@ -221,8 +233,8 @@ mod tests {
         assert_eq!(rt; answer.losses, [1_600_000_000, 0]);
         assert_eq!(rt; answer.world.families, [Some(1), None]);
         assert_eq!(rt; answer.world.baskets, [Some(0), Some(2), None, None]);
-        assert_eq!(rt; answer.world.months[0], Some(Kept::default()));
-        assert_eq!(rt; answer.world.months[1], Some(Kept::default()));
+        assert_eq!(rt; answer.world.months[0], Some(KEPT));
+        assert_eq!(rt; answer.world.months[1], Some(KEPT));
         Ok(())
     }
 
@@ -234,7 +246,7 @@ mod tests {
         assert_eq!(rt; answer.amount, 10_000);
         assert_eq!(rt; answer.world.families, [Some(0), None]);
         assert_eq!(rt; answer.world.baskets, [Some(0), None, None, None]);
-        assert_eq!(rt; answer.world.months[0], Some(Kept::default()));
+        assert_eq!(rt; answer.world.months[0], Some(KEPT));
         assert_eq!(rt; answer.world.months[1], None);
         Ok(())
     }
@@ -245,11 +257,11 @@ mod tests {
     fn months_of_a_calendar_spread(rt: HostRuntime) -> Result<(), Fail> {
         let down = Kept {
             rate: Some(3),
-            ..Kept::default()
+            ..KEPT
         };
         let up = Kept {
             rate: Some(4),
-            ..Kept::default()
+            ..KEPT
         };
         let counted = Counted {
             volatility: true,
@@ -260,7 +272,7 @@ mod tests {
         assert_eq!(rt; netted.world.months[0], Some(down));
         assert_eq!(rt; netted.world.months[1], Some(up));
         assert_eq!(rt; netted.world.orders[0], counted);
-        assert_eq!(rt; netted.world.orders[1], Counted::default());
+        assert_eq!(rt; netted.world.orders[1], UNCOUNTED);
         let half = calendar(rt.alloc(), 0).ok_or("no answer")?;
         assert_eq!(rt; half.world.families, [Some(0), None]);
         assert_eq!(rt; half.world.months[0], Some(down));

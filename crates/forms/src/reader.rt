@@ -6,9 +6,6 @@ ghost use Rattle.forms.specs.Reads.{told, form_in, list_on, Listed};
 use crate::kind::Kind;
 use terms::refusal::Refusal;
 
-// The columns of prices: a line of options has a row for each.
-pub const COLUMNS: usize = 7;
-
 // The text, and the place that is read next.
 #[derive(Drop)]
 pub struct Reader<'a> {

@@ -7,8 +7,8 @@ ghost use Rattle.forms.specs.Rows.{price_allowed, prices_asked, is_due, due_in, 
 ghost use Rattle.terms.specs.Halves.{points};
 
 use crate::field::{Allowed, Field};
-use crate::reader::{COLUMNS, Reader};
-use terms::half::Half;
+use crate::reader::Reader;
+use terms::half::{COLUMNS, Half};
 use terms::refusal::Refusal;
 
 const LINE: Field = Field {

@@ -8,9 +8,9 @@ ghost use Rattle.layers.specs.Scenes.{in_scene, cards_of, cells_of, worsts_of};
 use crate::fitted::Fitted;
 use crate::pick::least_between;
 use crate::rows::BasketRows;
-use crate::scene::POINTS;
 use order::{FamilyLoss, least};
 use std::array;
+use terms::half::MOST_POINTS;
 
 // A scene with the worst result of every family's row that there may be, each with its first point.
 #[derive(Clone, Copy, Drop)]
@@ -39,7 +39,7 @@ pub fn loss_of(res: i128) -> u128
 }
 
 impl<'a> BasketRows<'a> {
-    fn family_row(&self, f: usize) -> [i128; POINTS]
+    fn family_row(&self, f: usize) -> [i128; MOST_POINTS]
         ensures { Holds (family_result self.now.fitted.scene.last (cards_of self.now.fitted.scene) (cells_of self.now.fitted.scene) f) (2 ^ 78) 17 (self.now.fitted.scene.last + 1) result }
     {
         array::from_fn(|p| {

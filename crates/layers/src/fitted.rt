@@ -3,7 +3,8 @@ ghost use Rattle.std.specs.Prelude.{◌≡◌, ◌^◌, ◌<◌, ◌≤◌, unsi
 ghost use Rattle.layers.specs.Scenes.{Fits, cells_of};
 ghost use Rattle.layers.specs.Tables.{place_of};
 
-use crate::scene::{COLUMNS, POINTS, Scene};
+use crate::scene::Scene;
+use terms::half::{COLUMNS, MOST_POINTS};
 
 // A scene with as many cards as an account may have, and with room for their cells, none of which is too large to be added up.
 #[derive(Clone, Copy, Drop)]
@@ -18,7 +19,7 @@ fn place(m: usize, p: usize, k: usize) -> usize
     ensures value { result ≡ place_of m p k }
     ensures inside { result < 952 }
 {
-    (m * POINTS + p) * COLUMNS + k
+    (m * MOST_POINTS + p) * COLUMNS + k
 }
 
 impl<'a> Fitted<'a> {

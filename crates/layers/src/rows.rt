@@ -6,19 +6,19 @@ ghost use Rattle.layers.specs.Scenes.{HoldsBasket, HoldsBaskets, cards_of, cells
 
 use crate::fitted::Fitted;
 use crate::pick::least_between;
-use crate::scene::POINTS;
 use std::array;
+use terms::half::MOST_POINTS;
 
 // A scene with the results of each basket at 17 points.
 #[derive(Clone, Copy, Drop)]
 pub struct BasketRows<'a> {
     pub fitted: Fitted<'a>,
-    pub rows: [[i128; POINTS]; 4],
+    pub rows: [[i128; MOST_POINTS]; 4],
     ghost held: { HoldsBaskets fitted.scene rows },
 }
 
 impl<'a> Fitted<'a> {
-    fn basket_row(&self, b: usize) -> [i128; POINTS]
+    fn basket_row(&self, b: usize) -> [i128; MOST_POINTS]
         ensures { HoldsBasket self.now.scene b result }
     {
         array::from_fn(|p| self.basket_result(b, p))

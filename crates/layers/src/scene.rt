@@ -1,11 +1,6 @@
 // What the layers are worked out from: the cards, and the months' cells in a table.
 use terms::cards::{Basket, Family, Line, Month};
 
-// The most points of a grid, and the columns of a month.
-pub(crate) const POINTS: usize = 17;
-
-pub(crate) const COLUMNS: usize = 7;
-
 // The first of a month's two rate columns, and of its two twist columns.
 pub(crate) const RATE: usize = 3;
 

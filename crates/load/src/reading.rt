@@ -9,9 +9,9 @@ ghost use Rattle.load.specs.Reading.{day_in, any_at, some_in, cards_in, lines_in
 use crate::lists::Lists;
 use crate::loading::Loaded;
 use forms::kind::Kind;
-use forms::reader::{COLUMNS, Reader, read_from};
+use forms::reader::{Reader, read_from};
 use terms::cards::Line;
-use terms::half::Half;
+use terms::half::{COLUMNS, Half};
 use terms::refusal::Refusal;
 
 // The forms of a kind that follow one another, at least one.

@@ -2,6 +2,11 @@
 ghost use Rattle.std.specs.Prelude.{◌≡◌, pos};
 ghost use Rattle.terms.specs.Halves.{half_of, half_size, points, steps_of};
 
+// The columns of a grid, and the points of the widest.
+pub const COLUMNS: usize = 7;
+
+pub const MOST_POINTS: usize = 17;
+
 // A grid of half h has the points 0 to 2h, and its middle point is h.
 #[derive(Clone, Copy, PartialEq, Eq, Debug)]
 pub enum Half {
