@@ -13,7 +13,7 @@ pub struct Fitted<'a> {
     ghost fits: { Fits scene },
 }
 
-// Where a cell stands in the table.
+// Where a cell stands in the table, which stays one flat list, since callers hand in a scene and its cells as such.
 fn place(m: usize, p: usize, k: usize) -> usize
     requires { (m < 8) × ((p < 17) × (k < 7)) }
     ensures value { result ≡ place_of m p k }

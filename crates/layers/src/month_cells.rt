@@ -1,7 +1,8 @@
 // The cells of every month that there may be.
 ghost use Rattle.std.specs.Prelude.{◌≡◌, ℕ, ◌^◌, ◌≤◌, length, pos, slice_index_or, unsigned_abs};
 
-// For each of eight months, 17 points of seven columns; none is larger than the bound, so that no sum of them leaves 128 bits.
+// For each of eight months, 17 points of seven columns, flat, since callers hand them in and read them so. None is larger than
+// the bound, so that no sum of them leaves 128 bits.
 #[derive(Clone, Copy)]
 pub struct MonthCells {
     pub cells: [i128; 952],

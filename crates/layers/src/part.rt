@@ -1,4 +1,4 @@
-// What a basket adds up over its months.
+// What a basket adds up over its months, for callers that name a part; inside, `sum_over` takes a closure.
 
 #[derive(Clone, Copy, PartialEq, Eq, Debug)]
 pub enum Part {
