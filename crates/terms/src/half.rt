@@ -1,9 +1,11 @@
 // The half of a scenario grid: how many price points lie on each side of the middle one.
-ghost use Rattle.std.specs.Prelude.{◌≡◌, pos};
+ghost use Rattle.std.specs.Prelude.{◌≡◌, ◌*◌, pos};
 ghost use Rattle.terms.specs.Halves.{half_of, half_size, points, steps_of};
 
-// The columns of a grid, and the points of the widest.
+// The columns of a grid, of which the first three hold prices and the others changes of a price; and the points of the widest.
 pub const COLUMNS: usize = 7;
+
+pub const VOLATILITIES: usize = 3;
 
 pub const MOST_POINTS: usize = 17;
 
@@ -45,7 +47,14 @@ impl Half {
     pub fn points(self) -> usize
         ensures { result ≡ points self }
     {
-        2 * self.size() + 1
+        self.last() + 1
+    }
+
+    // The last point.
+    pub fn last(self) -> usize
+        ensures { result ≡ 2 * half_size self }
+    {
+        2 * self.size()
     }
 
     // How many eighths of the whole price move lie between two neighbouring points.

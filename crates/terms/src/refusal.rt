@@ -2,6 +2,8 @@
 ghost use Rattle.std.specs.Prelude.{◌≡◌};
 ghost use Rattle.terms.specs.Refusals.{number_of, place_of};
 
+use std::fmt;
+
 // A case that points at something holds its place: a byte of the text, an entry of a list, a card, or a length.
 #[derive(Clone, Copy, PartialEq, Eq, Debug)]
 pub enum Refusal {
@@ -69,7 +71,7 @@ impl Refusal {
         }
     }
 
-    // The place that the refusal points at; 0 where it points at none.
+    // The place that the refusal points at. It is 0, and not None, where it points at none: a refusal is told by two numbers.
     pub fn place(self) -> usize
         ensures { result ≡ place_of self }
     {
@@ -81,5 +83,13 @@ impl Refusal {
             | Refusal::WrongLength(place) => place,
             _ => 0,
         }
+    }
+}
+
+impl fmt::Display for Refusal {
+    fn fmt<W: fmt::Write>(&self, f: &mut fmt::Formatter<W>) -> fmt::Result {
+        let number = self.number();
+        let place = self.place();
+        write!(f, "(refused (number {number}) (place {place}))")
     }
 }
