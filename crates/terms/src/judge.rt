@@ -22,7 +22,7 @@ pub fn first_unfit<T, F: Fn(usize, &T) -> bool>(items: &[T], fits: F) -> Option<
         .position(|(place, item)| !fits(place, item))
 }
 
-// The place of the first item that fails, if there is one.
+// The same for callers whose tests are types.
 pub fn first_failing<T, J: Judge<T>>(judge: &J, items: &[T]) -> Option<usize>
     ensures value { result ≡ failing (J.Judge.admits judge.now) 0 items.now }
     ensures inside { IfSome result (λ place. place < length items.now) }
