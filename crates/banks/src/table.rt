@@ -65,6 +65,7 @@ impl<'a> Table<'a> {
         let half = judged(half, lines, entries)?;
         Ok(Table {
             half,
+            // 1 to 16, as was judged
             count: lines as usize,
             entries,
         })
