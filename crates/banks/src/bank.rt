@@ -26,7 +26,8 @@ pub trait Bank {
         ensures value { result ≡ (meaning self.now).reach }
         ensures bounded { result ≤ 2000000000000 };
 
-    // The price of one contract in a cell, in grains; 0 outside the grid.
+    // The price of one contract in a cell, in grains. A bank may be asked for any line, point and column, and answers 0
+    // outside the grid.
     fn price(&self, line: usize, point: usize, column: usize) -> i64
         ensures value { result ≡ (meaning self.now).price line point column }
         ensures bounded { unsigned_abs result ≤ 2000000000000 };

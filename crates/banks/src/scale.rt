@@ -1,5 +1,5 @@
 // A scale: a bank with every price, and the reach, times a factor of 1 to 100.
-ghost use Rattle.std.specs.Prelude.{◌≡◌, ◌*◌, ◌≤◌, pos, ◌*ℤ◌, unsigned_abs};
+ghost use Rattle.std.specs.Prelude.{◌≡◌, ◌≤◌};
 ghost use Rattle.banks.specs.Layers.{MayScale, scale_judged, scale_made, scale_meaning};
 ghost use Rattle.terms.specs.Checks.{MadeExactlyWhen};
 ghost use Rattle.banks.specs.Outcomes.{told};
@@ -31,12 +31,12 @@ impl<B: Bank> Bank for Scale<B> {
     }
 
     fn reach(&self) -> u64 {
-        times(self.factor, self.bank.reach()).min(MOST_REACH)
+        (u64::from(self.factor) * self.bank.reach()).min(MOST_REACH)
     }
 
     fn price(&self, line: usize, point: usize, column: usize) -> i64 {
         let price = self.bank.price(line, point, column);
-        capped(MOST_REACH, i128::from(grown(self.factor, price)))
+        capped(MOST_REACH, i128::from(i64::from(self.factor) * price))
     }
 }
 
@@ -60,24 +60,8 @@ fn judged(factor: i64, reach: u64) -> Result<u8, Refusal>
         return Err(Refusal::BadQuantity);
     }
     let factor = factor as u8;
-    if times(factor, reach) > MOST_REACH {
+    if u64::from(factor) * reach > MOST_REACH {
         return Err(Refusal::ReachTooLarge);
     }
     Ok(factor)
-}
-
-// A reach times a factor.
-fn times(factor: u8, reach: u64) -> u64
-    requires { reach ≤ 2000000000000 }
-    ensures { result ≡ factor * reach }
-{
-    u64::from(factor) * reach
-}
-
-// A price times a factor.
-fn grown(factor: u8, price: i64) -> i64
-    requires { unsigned_abs price ≤ 2000000000000 }
-    ensures { result ≡ pos factor *ℤ price }
-{
-    i64::from(factor) * price
 }

@@ -1,12 +1,10 @@
-// The sizes of a bank, whether a cell lies on its grid, and prices kept within a bound, for banks whose structs may hold any numbers.
+// The sizes of a bank, whether a cell lies on its grid, and prices kept within a bound.
+// Lines, reach and prices are capped where they are read, here and in each bank: the meaning is said of a bank with any numbers.
 ghost use Rattle.std.specs.Prelude.{◌≡◌, ◌≤◌, min, unsigned_abs};
 ghost use Rattle.banks.specs.Meanings.{most_reach, on_grid, capped as capped_at};
 
 pub use terms::half::COLUMNS;
 use terms::half::Half;
-
-// How many grains a kopeck has.
-pub const GRAINS: u64 = 80_000;
 
 // The most lines that a bank may have.
 pub const MOST_LINES: usize = 16;
@@ -26,7 +24,7 @@ pub fn capped(reach: u64, price: i128) -> i64
     }
 }
 
-// Whether a cell lies on the grid of so many lines.
+// Whether a cell lies on the grid of so many lines. The place of a cell is told in the parameters of `Bank::price`.
 pub fn has_cell(half: Half, lines: usize, line: usize, point: usize, column: usize) -> bool
     ensures { result ≡ on_grid half lines line point column }
 {

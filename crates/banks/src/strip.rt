@@ -7,14 +7,15 @@ ghost use Rattle.banks.specs.Soundness.{bounded_sound};
 ghost use Rattle.banks.specs.Strips.{quote_of, quoted, quote_reach, strip_reach, no_line, no_quote, strip_judged, strip_made, strip_meaning, MayStrip};
 ghost use Rattle.terms.specs.Cards.{future_fits};
 ghost use Rattle.terms.specs.Halves.{half_size, steps_of};
-ghost use Rattle.terms.specs.Judging.{failing};
 ghost use Rattle.std.specs.List.{All};
 
 use crate::bank::Bank;
-use crate::size::{GRAINS, MOST_LINES, MOST_REACH, capped, has_cell};
+use crate::size::{MOST_LINES, MOST_REACH, capped, has_cell};
 use std::array;
+use terms::amounts::GRAINS;
 use terms::cards::Line;
-use terms::half::Half;
+use terms::half::{Half, VOLATILITIES};
+use terms::judge::first_unfit;
 use terms::refusal::Refusal;
 
 // A future in grains: its price, what its price moves by from point to point, and what a move of the rate curve changes it by.
@@ -82,7 +83,7 @@ impl Strip {
 fn judged(half: i64, futures: &[Line]) -> Result<Half, Refusal>
     ensures { result ≡ strip_judged half futures.now }
 {
-    if let Some(card) = first_unfit(futures) {
+    if let Some(card) = first_unfit(futures, |_, card| card.fits_a_future()) {
         return Err(Refusal::BadCard(card));
     }
     let grid = Half::of(half).ok_or(Refusal::WrongShape)?;
@@ -90,13 +91,6 @@ fn judged(half: i64, futures: &[Line]) -> Result<Half, Refusal>
         return Err(Refusal::WrongShape);
     }
     Ok(grid)
-}
-
-// The place of the first card that is no future's.
-fn first_unfit(futures: &[Line]) -> Option<usize>
-    ensures { result ≡ failing (λ _. future_fits) 0 futures.now }
-{
-    futures.iter().position(|card| !card.fits_a_future())
 }
 
 // The greatest size that a price or a change of these futures can have.
@@ -179,7 +173,7 @@ impl Quote {
         ensures { result ≡ quoted half self point column }
     {
         match column {
-            0..=2 => i128::from(self.base) + steps(from_middle(half, point), self.step),
+            0..VOLATILITIES => i128::from(self.base) + steps(from_middle(half, point), self.step),
             3 => -i128::from(self.change),
             4 => i128::from(self.change),
             _ => 0,

@@ -2,29 +2,26 @@
 ghost use Rattle.std.specs.Prelude.{◌≡◌, ◌*◌, ◌<◌, ◌≤◌, pos, ◌*ℤ◌, slice_index_or};
 ghost use Rattle.banks.specs.Meanings.{grains};
 ghost use Rattle.terms.specs.Checks.{MadeExactlyWhen};
-ghost use Rattle.terms.specs.Judging.{failing};
 ghost use Rattle.banks.specs.Outcomes.{told};
 ghost use Rattle.banks.specs.Soundness.{bounded_sound};
 ghost use Rattle.banks.specs.Tables.{most_entry, listed, entry_at, entries as entry_count, fits_at, table_judged, table_made, table_meaning, MayTabulate};
 
 use crate::bank::Bank;
-use crate::size::{COLUMNS, GRAINS, MOST_LINES, capped, has_cell};
+use crate::size::{COLUMNS, MOST_LINES, capped, has_cell};
+use terms::amounts::{GRAINS, MOST_PRICE};
 use terms::cards::between;
-use terms::half::Half;
+use terms::half::{Half, VOLATILITIES};
+use terms::judge::first_unfit;
 use terms::refusal::Refusal;
 
-// the columns that hold prices, before those that hold changes of a price
-const VOLATILITIES: usize = 3;
-
-const MOST_ENTRY: i64 = 10_000_000;
-
 // what the largest entry comes to in grains
-const TABLE_REACH: u64 = GRAINS * MOST_ENTRY as u64;
+const TABLE_REACH: u64 = GRAINS * MOST_PRICE as u64;
 
 #[derive(Clone, Copy, Drop)]
 pub struct Table<'a> {
     half: Half,
     count: usize,
+    // one list, as the caller keeps it, row after row; nothing is copied
     entries: &'a [i64],
 }
 
@@ -68,6 +65,7 @@ impl<'a> Table<'a> {
         let half = judged(half, lines, entries)?;
         Ok(Table {
             half,
+            // 1 to 16, as was judged
             count: lines as usize,
             entries,
         })
@@ -94,10 +92,10 @@ fn judged(half: i64, lines: i64, entries: &[i64]) -> Result<Half, Refusal>
     if entries.len() != wanted {
         return Err(Refusal::WrongLength(wanted));
     }
-    match first_outside(grid, entries) {
-        Some(place) => Err(Refusal::OutsideField(place)),
-        None => Ok(grid),
+    if let Some(place) = first_unfit(entries, |place, entry| fits(grid, place, *entry)) {
+        return Err(Refusal::OutsideField(place));
     }
+    Ok(grid)
 }
 
 // How many entries a table of so many lines has.
@@ -116,23 +114,13 @@ fn place(half: Half, line: usize, point: usize, column: usize) -> usize
     (line * COLUMNS + column) * half.points() + point
 }
 
-// The place of the first entry that lies outside its field.
-fn first_outside(half: Half, entries: &[i64]) -> Option<usize>
-    ensures { result ≡ failing (fits_at half) 0 entries.now }
-{
-    entries
-        .iter()
-        .enumerate()
-        .position(|(place, entry)| !fits(half, place, *entry))
-}
-
 // Whether the entry at a place lies in its field: a price is never below 0.
 fn fits(half: Half, place: usize, entry: i64) -> bool
     ensures { result ≡ fits_at half place entry }
 {
     if place / half.points() % COLUMNS < VOLATILITIES {
-        between(entry, 0, MOST_ENTRY)
+        between(entry, 0, MOST_PRICE)
     } else {
-        between(entry, -MOST_ENTRY, MOST_ENTRY)
+        between(entry, -MOST_PRICE, MOST_PRICE)
     }
 }

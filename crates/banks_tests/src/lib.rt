@@ -174,8 +174,8 @@ mod tests {
     // Two lines of three points: an entry at a place, all others 0.
     fn with(place: usize, entry: i64) -> (u8, usize) {
         let mut list = [0; 42];
-        if place < 42 {
-            list[place] = entry;
+        if let Some(slot) = list.get_mut(place) {
+            *slot = entry;
         }
         tabled(1, 2, &list)
     }

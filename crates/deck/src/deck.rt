@@ -11,7 +11,7 @@ pub struct Deck {
     pub baskets: Vec<Basket>,
     pub months: Vec<Month>,
     pub lines: Vec<Line>,
-    // how many of the lines, from the first, are futures
+    // how many of the lines, from the first, are futures; they are one list, since lines are numbered through futures and options
     pub futures: usize,
     ghost some_families: { 1 ≤ vec_len families },
     ghost few_families: { vec_len families ≤ 2 },

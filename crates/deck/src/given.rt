@@ -1,6 +1,5 @@
 // What an account is given to begin with.
-ghost use Rattle.std.specs.Prelude.{◌≡◌, pos};
-ghost use Rattle.terms.specs.Cards.{within};
+ghost use Rattle.std.specs.Prelude.{◌≡◌};
 ghost use Rattle.deck.specs.Judgements.{first_unfit, counted, cards_judged};
 ghost use Rattle.deck.specs.Decks.{given_cards, refusal_of};
 
@@ -8,7 +7,8 @@ use crate::judges::{unfit_basket, unfit_family, unfit_line, unfit_month, unfit_r
 use terms::cards::{Basket, Family, Held, Line, Month};
 use terms::refusal::Refusal;
 
-// The cards of a session. The first `futures` lines are futures, and the rest are options.
+// The cards of a session. The first `futures` lines are futures, and the rest are options: they are one list, since lines are
+// numbered through futures and options.
 #[derive(Clone, Copy, Drop)]
 pub struct Given<'a> {
     pub families: &'a [Family],
@@ -20,6 +20,7 @@ pub struct Given<'a> {
 
 impl<'a> Given<'a> {
     // The first refusal of these cards and held records beside a bank of so many lines, if one applies.
+    // For callers that want the refusal alone; inside, `accepted` is passed on by `?`.
     pub fn refusal(&self, held: &[Held], bank_lines: usize) -> Option<Refusal>
         ensures { result ≡ refusal_of (cards_judged bank_lines (given_cards self.now) held.now) }
     {
@@ -66,18 +67,11 @@ impl<'a> Given<'a> {
         ensures { result ≡ counted bank_lines (given_cards self.now) }
     {
         let lines = self.lines.len();
-        few(self.families.len(), 2)
-            && few(self.baskets.len(), 4)
-            && few(self.months.len(), 8)
-            && few(lines, 16)
+        (1..=2).contains(&self.families.len())
+            && (1..=4).contains(&self.baskets.len())
+            && (1..=8).contains(&self.months.len())
+            && (1..=16).contains(&lines)
             && lines == bank_lines
-            && few(self.futures, lines)
+            && (1..=lines).contains(&self.futures)
     }
-}
-
-// Whether there is one of them, and no more than so many.
-fn few(count: usize, most: usize) -> bool
-    ensures { result ≡ within (pos 1) (pos most) (pos count) }
-{
-    (1..=most).contains(&count)
 }

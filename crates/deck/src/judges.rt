@@ -3,7 +3,9 @@ ghost use Rattle.std.specs.Prelude.{◌≡◌, ◌<◌, length, IfSome};
 ghost use Rattle.terms.specs.Judging.{failing};
 ghost use Rattle.deck.specs.Judgements.{name_fits, rule_fits, family_fits, basket_fits, month_fits, line_fits, held_fits, is_first};
 
+use terms::amounts::{MOST_CONTRACTS, MOST_PRICE};
 use terms::cards::{Basket, Family, Held, Line, Month, between};
+use terms::judge::first_unfit;
 
 // Whether a name names one of so many.
 pub(crate) fn names(count: usize, name: i64) -> bool
@@ -31,7 +33,9 @@ fn holds(lines: usize, all: &[Held], place: usize, held: &Held) -> bool
     ensures { result ≡ held_fits lines all.now place held.now }
 {
     let named = names(lines, held.line) && is_first(held.line, all, place);
-    named && between(held.net, -10_000, 10_000) && between(held.price, 0, 10_000_000)
+    named
+        && between(held.net, -MOST_CONTRACTS, MOST_CONTRACTS)
+        && between(held.price, 0, MOST_PRICE)
 }
 
 // The place of the first family that does not fit.
@@ -39,9 +43,10 @@ pub(crate) fn unfit_family(families: &[Family]) -> Option<usize>
     ensures value { result ≡ failing (λ _. family_fits) 0 families.now }
     ensures inside { IfSome result (λ place. place < length families.now) }
 {
-    families
-        .iter()
-        .position(|card| !(rules(card.rule) && between(card.window, 0, 16)))
+    first_unfit(
+        families,
+        |_, card| rules(card.rule) && between(card.window, 0, 16),
+    )
 }
 
 // The place of the first basket that does not fit beside so many families.
@@ -49,9 +54,10 @@ pub(crate) fn unfit_basket(families: usize, baskets: &[Basket]) -> Option<usize>
     ensures value { result ≡ failing (λ _. basket_fits families) 0 baskets.now }
     ensures inside { IfSome result (λ place. place < length baskets.now) }
 {
-    baskets
-        .iter()
-        .position(|card| !(names(families, card.family) && rules(card.rule)))
+    first_unfit(
+        baskets,
+        |_, card| names(families, card.family) && rules(card.rule),
+    )
 }
 
 // The place of the first month that does not fit beside so many baskets.
@@ -59,7 +65,7 @@ pub(crate) fn unfit_month(baskets: usize, months: &[Month]) -> Option<usize>
     ensures value { result ≡ failing (λ _. month_fits baskets) 0 months.now }
     ensures inside { IfSome result (λ place. place < length months.now) }
 {
-    months.iter().position(|card| !names(baskets, card.basket))
+    first_unfit(months, |_, card| names(baskets, card.basket))
 }
 
 // The place of the first line that does not fit beside so many months. The first so many lines are futures.
@@ -67,8 +73,8 @@ pub(crate) fn unfit_line(months: usize, futures: usize, lines: &[Line]) -> Optio
     ensures value { result ≡ failing (line_fits months futures) 0 lines.now }
     ensures inside { IfSome result (λ place. place < length lines.now) }
 {
-    lines.iter().enumerate().position(|(place, card)| {
-        !(names(months, card.month) && (futures <= place || card.fits_a_future()))
+    first_unfit(lines, |place, card| {
+        names(months, card.month) && (futures <= place || card.fits_a_future())
     })
 }
 
@@ -77,7 +83,5 @@ pub(crate) fn unfit_record(lines: usize, held: &[Held]) -> Option<usize>
     ensures value { result ≡ failing (held_fits lines held.now) 0 held.now }
     ensures inside { IfSome result (λ place. place < length held.now) }
 {
-    held.iter()
-        .enumerate()
-        .position(|(place, record)| !holds(lines, held, place, record))
+    first_unfit(held, |place, record| holds(lines, held, place, record))
 }

@@ -13,7 +13,7 @@ use banks::bank::Bank;
 use banks::pair::Pair;
 use banks::scale::Scale;
 use banks::size::{MOST_REACH, capped};
-use terms::half::Half;
+use terms::half::{Half, VOLATILITIES};
 use terms::refusal::Refusal;
 
 // One contract whose price rises by the same tick from point to point, in grains.
@@ -42,7 +42,7 @@ impl Bank for Ramp {
     }
 
     fn price(&self, line: usize, point: usize, column: usize) -> i64 {
-        if line < 1 && point < self.half.points() && column < 3 {
+        if line < 1 && point < self.half.points() && column < VOLATILITIES {
             capped(self.top(), i128::from(self.level(point)))
         } else {
             0
@@ -102,6 +102,6 @@ pub fn pile(
 pub fn swing<B: Bank>(bank: &B, line: usize) -> i64
     ensures { result ≡ swing_of (B.Bank.meaning bank.now) line }
 {
-    let last = 2 * bank.half().size();
+    let last = bank.half().last();
     bank.price(line, last, 0) - bank.price(line, 0, 0)
 }

@@ -19,17 +19,6 @@ module _ {X : Type 0} (test : ℕ → X → Bool) where
   placed_from i [] = refl
   placed_from i (x ∷ xs) = step test i x xs _ (placed_from (i + 1) xs)
 
-  -- a test that reads the place
   pub failing_enumerated : (xs : List X) (found : Option ℕ) → found ≡ position {X = ℕ × X} (λ p. not (test p.0 p.1)) (enumerate_from 0 xs) → found ≡ failing test 0 xs
   failing_enumerated xs found e =
       e ∙ position_from-zero (λ p. not (test p.0 p.1)) (enumerate_from 0 xs) ∙ placed_from 0 xs
-
-module _ {X : Type 0} (test : X → Bool) where
-  alike_from : (i : ℕ) (xs : List X) → position_from (λ x. not (test x)) i xs ≡ failing (λ _. test) i xs
-  unfolding failing
-  alike_from i [] = refl
-  alike_from i (x ∷ xs) = step (λ _. test) i x xs _ (alike_from (i + 1) xs)
-
-  -- a test that is the same at every place
-  pub failing_anywhere : (xs : List X) (found : Option ℕ) → found ≡ position (λ x. not (test x)) xs → found ≡ failing (λ _. test) 0 xs
-  failing_anywhere xs found e = e ∙ position_from-zero (λ x. not (test x)) xs ∙ alike_from 0 xs

@@ -16,6 +16,10 @@ rates_fit r = ((int_le (pos 1) r.r1 && int_le r.r1 r.r2) && int_le r.r2 r.r3) &&
 abbrev pub limits_fit : Limits → Bool
 limits_fit l = (int_le (pos 0) l.a && int_le l.a l.b) && int_le l.b (pos 10000)
 
+-- price and spot price are 0 to 10,000,000, and a change is 0 to 1,000,000
+abbrev pub prices_fit : Line → Bool
+prices_fit l = (within (pos 0) (pos 10000000) l.price && within (pos 0) (pos 10000000) l.spot) && within (pos 0) (pos 1000000) l.change
+
 -- every number of a future but its month lies in its field
 abbrev pub future_fits : Line → Bool
-future_fits l = (((within (pos 0) (pos 10000000) l.price && within (pos 0) (pos 10000000) l.spot) && within (pos 0) (pos 1000000) l.change) && rates_fit l.rates) && limits_fit l.limits
+future_fits l = (prices_fit l && rates_fit l.rates) && limits_fit l.limits

@@ -1,12 +1,14 @@
 // Cards say how contracts net and what a future is worth; a session file has one form for each card.
 // Their numbers stand as the caller or the file gave them, and are judged by the call that takes the card.
 ghost use Rattle.std.specs.Prelude.{◌≡◌};
-ghost use Rattle.terms.specs.Cards.{within, rates_fit, limits_fit, future_fits};
+ghost use Rattle.terms.specs.Cards.{within, prices_fit, rates_fit, limits_fit, future_fits};
+
+use crate::amounts::MOST_PRICE;
 
 // A family: contracts whose spreads net across base assets.
 #[derive(Clone, Copy, PartialEq, Eq, Debug, Default)]
 pub struct Family {
-    // 0 half, 1 netted
+    // 0 half, 1 netted: a number, as it was given, which the call that takes the card judges
     pub rule: i64,
     // how many points apart the baskets of a netted family may lie
     pub window: i64,
@@ -16,7 +18,7 @@ pub struct Family {
 #[derive(Clone, Copy, PartialEq, Eq, Debug, Default)]
 pub struct Basket {
     pub family: i64,
-    // 0 half, 1 netted
+    // 0 half, 1 netted: a number, as it was given, which the call that takes the card judges
     pub rule: i64,
 }
 
@@ -61,7 +63,7 @@ pub struct Held {
     pub price: i64,
 }
 
-// Whether low ≤ n ≤ high.
+// Whether low ≤ n ≤ high. For callers that have the two ends as numbers.
 pub fn between(n: i64, low: i64, high: i64) -> bool
     ensures { result ≡ within low high n }
 {
@@ -89,11 +91,14 @@ impl Line {
     pub fn fits_a_future(&self) -> bool
         ensures { result ≡ future_fits self.now }
     {
-        // joined by `&`: of five branches that meet again no proof closed
-        between(self.price, 0, 10_000_000)
-            & between(self.spot, 0, 10_000_000)
-            & between(self.change, 0, 1_000_000)
-            & self.rates.fit()
-            & self.limits.fit()
+        self.prices_fit() && self.rates.fit() && self.limits.fit()
+    }
+
+    fn prices_fit(&self) -> bool
+        ensures { result ≡ prices_fit self.now }
+    {
+        between(self.price, 0, MOST_PRICE)
+            && between(self.spot, 0, MOST_PRICE)
+            && between(self.change, 0, 1_000_000)
     }
 }

@@ -20,6 +20,7 @@ pub enum Half {
 
 impl Half {
     // The half of a given size, or none where no grid has that size.
+    // An Option and not TryFrom: each caller has its own answer where no grid has the size.
     pub fn of(size: i64) -> Option<Half>
         ensures { result ≡ half_of size }
     {

@@ -1,7 +1,8 @@
 // Prints the scenario sheet of two futures and an option, and of the same option in a contract of twice the size; and what must
 // be blocked for a calendar spread of the futures with open orders, and the world handed out with it. The futures come from
 // their cards, the option from a table of prices, and the whole is one bank.
-// What prints the rows stands in `sheet` too: in a library it would be public functions of which no contract could say what they print.
+// Each of the two programs, this and `sheet`, shows whole what a caller writes: cards, bank, book, margin. What prints the
+// rows stands in both too: in a library it would be public functions of which no contract could say what they print.
 #![tactic(auto)]
 
 use banks::bank::Bank;
@@ -46,11 +47,11 @@ fn run(rt: &HostRuntime) -> anyhow::Result<()> {
             sheet(rt, &bank)?;
             margin(rt, &bank)?;
         }
-        Err(why) => refused(rt, why)?,
+        Err(why) => println!(rt; "{why}")?,
     }
     match too_large(&OPTION) {
         Ok(_) => rt.println("a table fifty times as large was made")?,
-        Err(why) => refused(rt, why)?,
+        Err(why) => println!(rt; "{why}")?,
     }
     Ok(())
 }
@@ -71,7 +72,7 @@ fn margin<B: Bank>(rt: &HostRuntime, bank: &B) -> anyhow::Result<()> {
     };
     match Deck::judged(rt.alloc(), &given, &[], bank.lines()) {
         Ok(deck) => blocked(rt, bank, &deck)?,
-        Err(Fault::Refused(why)) => refused(rt, why)?,
+        Err(Fault::Refused(why)) => println!(rt; "{why}")?,
         Err(Fault::Memory) => rt.println("no memory for the cards")?,
     }
     Ok(())
@@ -241,6 +242,7 @@ fn sheet<B: Bank>(rt: &impl Print, bank: &B) -> io::Result<()> {
     let half = bank.half().size();
     let reach = bank.reach();
     println!(rt; "{lines} lines, half {half}, reach {reach} grains")?;
+    // by number: a bank is asked by numbers, and there is no list of lines or points to go over
     for line in 0..lines {
         println!(rt; "line {line}")?;
         for (column, name) in COLUMNS.iter().enumerate() {
@@ -264,10 +266,4 @@ fn row<B: Bank>(
         print!(rt; " {price:>14}")?;
     }
     println!(rt; "")
-}
-
-fn refused(rt: &impl Print, why: Refusal) -> io::Result<()> {
-    let number = why.number();
-    let place = why.place();
-    println!(rt; "(refused (number {number}) (place {place}))")
 }
