@@ -17,7 +17,7 @@ impl<'a> Scene<'a> {
     {
         self.baskets
             .get(b)
-            .is_some_and(|basket| names(basket.rule, 1))
+            .is_some_and(|basket| basket.rule == 1)
     }
 }
 

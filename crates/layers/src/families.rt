@@ -32,7 +32,7 @@ impl<'a> Scene<'a> {
     {
         self.families
             .get(f)
-            .is_some_and(|family| names(family.rule, 1))
+            .is_some_and(|family| family.rule == 1)
     }
 
     // How many points a basket of the family may lie from the family's point.
