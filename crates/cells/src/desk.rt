@@ -44,7 +44,7 @@ impl<'a, B: Bank> Desk<'a, B> {
         Quote { price, column: k }
     }
 
-    // A month's cell at a point and in a column.
+    // A month's cell at a point and in a column. Added up in a loop: of a signed sum std's chains give no bound.
     fn month_cell(&self, m: usize, p: usize, k: usize) -> i128
         ensures value { result ≡ month_share self.now.last (B.Bank.meaning self.now.bank.now).price (deck_cards self.now.deck.now) (book_of self.now.book) m p k }
         ensures size { unsigned_abs result ≤ 16 * 2 ^ 61 }
