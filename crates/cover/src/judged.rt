@@ -22,7 +22,8 @@ fn may_hold(positions: &[Position]) -> bool
     ensures { result ≡ not (is_some (failing (λ _. small_position) 0 positions.now)) }
 {
     positions.iter().all(|position| {
-        between(position.net, -MOST_CONTRACTS, MOST_CONTRACTS) && between(position.cost, -MOST_COST, MOST_COST)
+        between(position.net, -MOST_CONTRACTS, MOST_CONTRACTS)
+            && between(position.cost, -MOST_COST, MOST_COST)
     })
 }
 

@@ -73,7 +73,8 @@ impl<'a> BasketRows<'a> {
         }
     }
 
-    // The point is asked to lie on the grid, as above. Added up in a loop: of a signed sum std's chains give no bound.
+    // A family at a point of the grid, which is asked for as above. Added up in a loop: of a signed sum std's chains give no
+    // bound.
     pub fn family_result(&self, f: usize, p: usize) -> i128
         requires { p ≤ self.now.fitted.scene.last }
         ensures value { result ≡ family_result self.now.fitted.scene.last (cards_of self.now.fitted.scene) (cells_of self.now.fitted.scene) f p }

@@ -23,8 +23,8 @@ pub(crate) fn least_with_0(first: i128, second: i128) -> (i128, usize)
 }
 
 // The least of the results that stand in a list from base + start to base + end, and its first place, counted from the base.
-// The base serves callers that keep several rows in one list. Both are asked for, since of an empty stretch, or of one past the
-// list's end, the definition still names a result, and to answer it would take a branch.
+// The base serves callers that keep several rows in one list. Order and room are asked for: of an empty stretch, or of one past
+// the list's end, the definition still names a result, and to answer it would take a branch and a proof of its own.
 pub fn least_between(results: &[i128], base: usize, start: usize, end: usize) -> (i128, usize)
     requires ordered { start ≤ end }
     requires within { base + end < length results.now }
