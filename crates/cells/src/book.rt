@@ -3,9 +3,7 @@ ghost use Rattle.std.specs.Prelude.{ℕ, ◌^◌, ◌≤◌, length, slice_index
 ghost use Rattle.cells.specs.Empty.{no_position, no_order};
 
 use margin::book::{Open, Position};
-
-// The most open orders of a book.
-pub const MOST_ORDERS: usize = 32;
+pub use margin::choice::MOST_ORDERS;
 
 #[derive(Clone, Copy)]
 pub struct Book<'a> {

@@ -74,6 +74,7 @@ impl<'a> Future<'a> {
     {
         times::<80_000_000, 6_800_000_000>(8 * self.card.spot, self.steps(reach))
     }
+
     // The charge where it is due.
     pub(crate) fn charge_if(&self, due: bool, reach: Reach) -> i64
         ensures value { result ≡ elim due [ true ↦ charge_for self.now.card.now reach.contracts | false ↦ pos 0 ] }

@@ -13,21 +13,21 @@ use crate::open_order::OpenOrder;
 use banks::bank::Bank;
 use deck::deck::Deck;
 use layers::naming::number;
-use margin::choice::{Counted, Kept};
+use margin::choice::{Counted, Kept, MOST_ORDERS};
 use std::array;
 
 // The number of a line's month; a line that is not there is read as one of month 0.
 fn month_of(deck: &Deck, line: usize) -> usize
     ensures { result ≡ named (line_card (deck_cards deck.now) line).month }
 {
-    number(deck.lines.get(line).copied().unwrap_or_default().month)
+    deck.lines.get(line).map_or(0, |card| number(card.month))
 }
 
 // The number of a month's basket.
 fn basket_of(deck: &Deck, m: usize) -> usize
     ensures { result ≡ named (month_card (deck_cards deck.now) m).basket }
 {
-    number(deck.months.get(m).copied().unwrap_or_default().basket)
+    deck.months.get(m).map_or(0, |card| number(card.basket))
 }
 
 // The choice that a list has at a place, and none beyond its end.
@@ -89,7 +89,7 @@ impl<'a, B: Bank> Desk<'a, B> {
         &self,
         points: &[Option<usize>],
         columns: &[Option<Kept>],
-    ) -> [Counted; 32]
+    ) -> [Counted; MOST_ORDERS]
         ensures { ListsAll nowhere (counted_from (B.Bank.meaning self.now.bank.now).price (deck_cards self.now.deck.now) (book_of self.now.book) points.now columns.now) result }
     {
         array::from_fn(|i| self.counted(points, columns, i))

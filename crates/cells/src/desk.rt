@@ -10,10 +10,12 @@ use crate::book::Book;
 use crate::quote::Quote;
 use banks::bank::Bank;
 use deck::deck::Deck;
+use layers::month_cells::CELLS;
 use layers::naming::names;
 use std::array;
+use terms::half::{COLUMNS, MOST_POINTS};
 
-// What cells are worked out from; the last point is that of the bank's grid.
+// What cells are worked out from. The last point stands beside the bank: a caller may set it, so nothing is held of it.
 #[derive(Drop)]
 pub struct Desk<'a, B> {
     pub bank: &'a B,
@@ -24,7 +26,7 @@ pub struct Desk<'a, B> {
 
 // The table whose cells a closure answers, place by place. It is apart from the desk's own, since a search through all that
 // `array::from_fn` says of 952 calls finds no proof there.
-fn table_of<F: Fn(usize) -> i128>(cell: F) -> [i128; 952]
+fn table_of<F: Fn(usize) -> i128>(cell: F) -> [i128; CELLS]
     requires { F.IsAlwaysCallable cell }
     ensures long { length result ≡ 952 }
     ensures each { (k : ℕ) → k < 952 → F.post cell k (slice_index_or result k (pos 0)) }
@@ -42,7 +44,7 @@ impl<'a, B: Bank> Desk<'a, B> {
         Quote { price, column: k }
     }
 
-    // A month's cell at a point and in a column.
+    // A month's cell at a point and in a column. Added up in a loop: of a signed sum std's chains give no bound.
     fn month_cell(&self, m: usize, p: usize, k: usize) -> i128
         ensures value { result ≡ month_share self.now.last (B.Bank.meaning self.now.bank.now).price (deck_cards self.now.deck.now) (book_of self.now.book) m p k }
         ensures size { unsigned_abs result ≤ 16 * 2 ^ 61 }
@@ -61,11 +63,15 @@ impl<'a, B: Bank> Desk<'a, B> {
         ensures value { result ≡ at_place (month_share self.now.last (B.Bank.meaning self.now.bank.now).price (deck_cards self.now.deck.now) (book_of self.now.book)) place }
         ensures size { unsigned_abs result ≤ 2 ^ 70 }
     {
-        self.month_cell(place / 119, place % 119 / 7, place % 7)
+        self.month_cell(
+            place / (MOST_POINTS * COLUMNS),
+            place % (MOST_POINTS * COLUMNS) / COLUMNS,
+            place % COLUMNS,
+        )
     }
 
     // The cells of every month: for each, 17 points of seven columns.
-    pub fn table(&self) -> [i128; 952]
+    pub fn table(&self) -> [i128; CELLS]
         ensures { Holds (at_place (month_share self.now.last (B.Bank.meaning self.now.bank.now).price (deck_cards self.now.deck.now) (book_of self.now.book))) (2 ^ 70) 952 952 result }
     {
         table_of(|place| self.cell_at(place))

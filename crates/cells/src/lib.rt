@@ -30,7 +30,7 @@ use crate::desk::Desk;
 use banks::bank::Bank;
 use deck::deck::Deck;
 use layers::month_cells::MonthCells;
-use margin::choice::{Counted, Kept};
+use margin::choice::{Counted, Kept, MOST_ORDERS};
 
 // The cells of every month at a bank's prices.
 pub fn month_cells<'a, B: Bank>(bank: &'a B, deck: &'a Deck, book: Book<'a>) -> MonthCells
@@ -48,7 +48,7 @@ pub fn counted_orders<'a, B: Bank>(
     book: Book<'a>,
     points: &[Option<usize>],
     columns: &[Option<Kept>],
-) -> [Counted; 32]
+) -> [Counted; MOST_ORDERS]
     ensures { ListsAll nowhere (counted_from (B.Bank.meaning bank.now).price (deck_cards deck.now) (book_of book.entry) points.now columns.now) result }
 {
     desk_for(bank, deck, book).all_counted(points, columns)
@@ -65,6 +65,6 @@ fn desk_for<'a, B: Bank>(bank: &'a B, deck: &'a Deck, book: Book<'a>) -> Desk<'a
         bank,
         deck,
         book,
-        last: 2 * bank.half().size(),
+        last: bank.half().last(),
     }
 }

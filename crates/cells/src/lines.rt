@@ -9,6 +9,7 @@ ghost use Rattle.deck.specs.Decks.{deck_cards};
 use crate::charges::Future;
 use crate::desk::Desk;
 use banks::bank::Bank;
+use terms::half::VOLATILITIES;
 
 impl<'a, B: Bank> Desk<'a, B> {
     // What a future is charged at a point, where a column holds prices. Two tests: after one `||` no proof knows which of them held.
@@ -19,7 +20,7 @@ impl<'a, B: Bank> Desk<'a, B> {
         if line >= self.deck.futures {
             return 0;
         }
-        if column > 2 {
+        if column >= VOLATILITIES {
             return 0;
         }
         let card = &self.deck.lines[line];

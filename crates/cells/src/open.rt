@@ -1,4 +1,4 @@
-// The open contracts of a line.
+// The open contracts of a line: two names over `over_orders`, since callers name them.
 ghost use Rattle.std.specs.Prelude.{◌≡◌, ◌≤◌, unsigned_abs};
 ghost use Rattle.margin.specs.Cells.{buys, sells};
 ghost use Rattle.cells.specs.Books.{book_of};

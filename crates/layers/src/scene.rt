@@ -6,6 +6,7 @@ pub(crate) const RATE: usize = 3;
 
 pub(crate) const TWIST: usize = 5;
 
+// Its own fields, since callers name them. Futures and options are one list, since lines are numbered through both.
 #[derive(Clone, Copy, Drop)]
 pub struct Scene<'a> {
     pub families: &'a [Family],

@@ -9,10 +9,11 @@ use crate::fitted::Fitted;
 use crate::naming::number;
 use crate::rows::BasketRows;
 use crate::scene::{RATE, Scene, TWIST};
-use margin::choice::Kept;
+use margin::choice::{Kept, MOST_BASKETS, MOST_FAMILIES, MOST_MONTHS};
 use std::array;
 
-// The column at a place of a rate or twist result: place 0 is no column.
+// The column at a place of a rate or twist result: place 0 is no column. The place stays a number, as the definition answers it;
+// this turns it into an Option.
 fn column_at(first: usize, place: usize) -> Option<usize>
     requires { (first < 7) × (place ≤ 2) }
     ensures { result ≡ column_at first place }
@@ -123,22 +124,22 @@ impl<'a> BasketRows<'a> {
         self.fitted.month_in(b, p, m)
     }
 
-    // The families' points in the world handed out.
-    pub fn chosen_families(&self) -> [Option<usize>; 2]
+    // The families' points in the world handed out. Three names over one function, since callers name them.
+    pub fn chosen_families(&self) -> [Option<usize>; MOST_FAMILIES]
         ensures { Lists (family_choice self.now.fitted.scene) result }
     {
         chosen(self.fitted.scene.families.len(), |f| self.family_point(f))
     }
 
     // The baskets' points.
-    pub fn chosen_baskets(&self) -> [Option<usize>; 4]
+    pub fn chosen_baskets(&self) -> [Option<usize>; MOST_BASKETS]
         ensures { Lists (basket_choice self.now.fitted.scene) result }
     {
         chosen(self.fitted.scene.baskets.len(), |b| self.basket_point(b))
     }
 
     // The months' columns.
-    pub fn chosen_months(&self) -> [Option<Kept>; 8]
+    pub fn chosen_months(&self) -> [Option<Kept>; MOST_MONTHS]
         ensures { Lists (month_choice self.now.fitted.scene) result }
     {
         chosen(self.fitted.scene.months.len(), |m| self.month_kept(m))

@@ -1,4 +1,4 @@
-use Rattle.std.proofs.Common.{◌*◌, refl, ap, le_trans, rules}
+use Rattle.std.proofs.Common.{refl, le_trans, rules}
 use Rattle.deck.proofs.Kept.{few_families, few_baskets, few_months, basket_of_month}
 use Rattle.layers.proofs.outcome.view.Goals as goal
 
@@ -22,6 +22,6 @@ returns c =
     record {
       cards = search rules;
       table = refl;
-      last = ap (λ n. 2 * n) c.size.ensures;
+      last = c.last.ensures;
       named = rw c.as_slice-3.ensures.value (λ m h. le_trans (basket_of_month deck m h) (few_baskets deck));
     }

@@ -13,10 +13,10 @@ returns-then-line-self-clause-value g c =
     let desk = c.args.self.now in
     sym (option_uncharged desk.last (deck_cards desk.deck.now) (book_of desk.book) c.args.line c.args.point c.args.column c.if-line-self.true)
 
-pub returns-then-column-gt2-clause-value : goal.returns-then-column-gt2-clause-value
-returns-then-column-gt2-clause-value g c =
+pub returns-then-column-ge-VOLATILITIES-clause-value : goal.returns-then-column-ge-VOLATILITIES-clause-value
+returns-then-column-ge-VOLATILITIES-clause-value g c =
     let desk = c.args.self.now in
-    sym (change_uncharged desk.last (deck_cards desk.deck.now) (book_of desk.book) c.args.line c.args.point c.args.column c.if-line-self.false c.if-column-gt2.true)
+    sym (change_uncharged desk.last (deck_cards desk.deck.now) (book_of desk.book) c.args.line c.args.point c.args.column c.if-line-self.false (omega arith))
 
 pub invariant_of-charges_at : goal.invariant_of-charges_at
 invariant_of-charges_at g c =
@@ -30,5 +30,5 @@ pub returns-clause-value : goal.returns-clause-value
 returns-clause-value g c =
     let desk = c.args.self.now in
     let whole : SFits w64 c.charges_at.result = search rules in
-    let here = charged_here desk.last (deck_cards desk.deck.now) (book_of desk.book) c.args.line c.args.point c.args.column c.if-line-self.false c.if-column-gt2.false in
+    let here = charged_here desk.last (deck_cards desk.deck.now) (book_of desk.book) c.args.line c.args.point c.args.column c.if-line-self.false (omega arith) in
     to_z-of_z w64 c.charges_at.result whole ∙ c.charges_at.ensures.value ∙ sym here

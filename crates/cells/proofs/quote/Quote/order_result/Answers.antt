@@ -1,11 +1,17 @@
-use Rattle.std.proofs.Common.{rules}
+use Rattle.std.proofs.Common.{◌<◌, ◌≤◌, arith, rules}
 use Rattle.margin.specs.Cells.{order_result}
 use Rattle.cells.proofs.quote.Quote.order_result.Goals as goal
 
-pub returns-then-self-le2-clause-value : goal.returns-then-self-le2-clause-value
+pub returns-then-self-lt-VOLATILITIES-clause-value : goal.returns-then-self-lt-VOLATILITIES-clause-value
 unfolding order_result
-returns-then-self-le2-clause-value c = search rules
+returns-then-self-lt-VOLATILITIES-clause-value c =
+    let column = c.args.self.column in
+    let priced : column ≤ 2 = omega arith in
+    search rules
 
-pub returns-else-self-le2-clause-value : goal.returns-else-self-le2-clause-value
+pub returns-else-self-lt-VOLATILITIES-clause-value : goal.returns-else-self-lt-VOLATILITIES-clause-value
 unfolding order_result
-returns-else-self-le2-clause-value c = search rules
+returns-else-self-lt-VOLATILITIES-clause-value c =
+    let column = c.args.self.column in
+    let changed : 2 < column = omega arith in
+    search rules
