@@ -6,7 +6,8 @@ ghost use Rattle.forms.specs.Reads.{told, form_in, list_on, Listed};
 use crate::kind::Kind;
 use terms::refusal::Refusal;
 
-// The text, and the place that is read next.
+// The text, and the place that is read next. The clauses of its public functions keep their names, where those within the crate
+// say the same in one word.
 #[derive(Drop)]
 pub struct Reader<'a> {
     pub(crate) text: &'a [u8],
