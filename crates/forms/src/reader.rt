@@ -57,13 +57,11 @@ impl Reader<'_> {
         ensures reads { ReadsLists K.Kind.head_of K.Kind.fields_of K.Kind.empty K.Kind.filled }
     {
         let head = K::first_head();
-        // By index, since nothing is known of a list that is written through `iter_mut().enumerate()`.
-        for count in 0..out.len() {
+        for (count, record) in out.iter_mut().enumerate() {
             if !self.begins_with(head) {
                 return Ok(count);
             }
-            let record = self.form::<K>()?;
-            out[count] = record;
+            *record = self.form::<K>()?;
         }
         if self.begins_with(head) {
             Err(Refusal::WrongForm(self.at))
