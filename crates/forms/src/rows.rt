@@ -126,6 +126,8 @@ impl Reader<'_> {
         ensures reads { ReadsRows }
     {
         let size = half.points();
+        // The end is counted by hand: tried `chunks_exact_mut` and `split_at_mut`, but no proof closed, since of a list that a loop
+        // writes through them nothing is known behind the loop.
         let mut end = 0;
         // The caller counts rows, and may stop within a line, so that no loop over lines holds one over columns.
         for index in 0..count {
