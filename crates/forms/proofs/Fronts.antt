@@ -1,9 +1,9 @@
 -- The head at the front of a text, and the spaces before its closing bracket, in the words of the library.
 use Rattle.std.proofs.Common.{◌≡◌, ℕ, suc, ◌+◌, ◌<◌, ◌≤◌, Bool, true, false, not, ◌&&◌, cond, eqb, List, [], ◌∷◌, length, take, get_or, refl, ap, ◌∙◌, sym, arith, count_by}
-use Rattle.std.specs.List.{starts_with, prefix_len, take_while}
+use Rattle.std.specs.List.{starts_with, prefix_len, take_while, filter}
 use Rattle.std.specs.Char.{is_ascii_lowercase}
 use Rattle.std.proofs.lemmas.Bool.{true≢false}
-use Rattle.std.proofs.lemmas.List.Sums.{sum_by-cons}
+use Rattle.std.proofs.lemmas.List.Sums.{sum_by-cons, length-filter}
 use Rattle.forms.specs.Reads.{is_head, spaces}
 
 -- another head stands there
@@ -48,3 +48,7 @@ spaces_counted n (b ∷ bs) =
         let end = prefix_len (λ b. not (eqb b 41)) bs in
         let one : 1 + end ≡ suc end = omega arith in
         ap (λ k. count_by (λ b. eqb b 32) (take k (b ∷ bs))) one ∙ sum_by-cons (λ b. cond (eqb b 32) 1 0) b (take end bs)
+
+-- likewise, as a chain over the bytes counts them
+pub counts_spaces : (n : ℕ) (bs : List ℕ) → n ≡ length (filter (λ b. eqb b 32) (take_while (λ b. not (eqb b 41)) bs)) → n ≡ spaces 0 bs
+counts_spaces n bs e = let counted = length-filter (λ b. eqb b 32) (take_while (λ b. not (eqb b 41)) bs) in omega (arith, e, counted, spaces_counted 0 bs)

@@ -1,19 +1,17 @@
 -- The reader's answers, by cases.
-use Rattle.std.proofs.Common.{◌≡◌, ℕ, ◌+◌, ◌-◌, ◌<◌, ◌≤◌, Bool, true, false, not, ◌&&◌, eqb, count_by, List, [], ◌∷◌, length, take, drop, ℤ, Ok, Err, Result, sym, ap, ◌∙◌, arith}
-use Rattle.std.specs.List.{take_while}
+use Rattle.std.proofs.Common.{◌≡◌, ℕ, ◌+◌, ◌-◌, ◌<◌, ◌≤◌, Bool, true, false, ◌&&◌, eqb, List, [], ◌∷◌, length, take, drop, ℤ, Ok, Err, Result, sym, ap, ◌∙◌, arith}
 use Rattle.std.proofs.lemmas.List.{take_rest, length-drop}
 use Rattle.std.proofs.lemmas.Bool.{ltb-true, and_parts, true≢false}
 use Rattle.terms.specs.declared.refusal.Refusal.{Refusal}
 use Rattle.terms.specs.declared.refusal.Refusal.TheVariants.{Malformed, OutsideField, WrongForm}
 use Rattle.text.specs.Numbers.{number_at}
-use Rattle.std.specs.Result.{IsErrAnd}
+use Rattle.std.specs.Result.{IsErrAnd, is_ok}
 use Rattle.std.proofs.lemmas.Result.{err_from_is_err_and}
 use Rattle.forms.specs.declared.reader.Reader.{Reader}
 use Rattle.forms.specs.Moves.{Moves, holding}
 use Rattle.forms.specs.Reads.{Told, told, then, given, is_head, spaces, stands, behind, byte_in, number_in, field_in, open_in, fits_head, head_in, begins, outer_in, close_in}
 use Rattle.forms.specs.declared.field.Allowed.{Allowed}
 use Rattle.forms.specs.Fields.{allows, Asked}
-use Rattle.forms.proofs.Fronts.{spaces_counted}
 
 pub stands_inside : (c : ℕ) (text : List ℕ) (at : ℕ) → stands c text at ≡ true → at < length text
 stands_inside c text at e = ltb-true at (length text) (and_parts _ _ e).0
@@ -30,6 +28,10 @@ module _ (text : List ℕ) (at : ℕ) where
   pub number_is : (r : Result (ℤ × ℕ) Refusal) → r ≡ number_at (take (length text - at) (drop at text)) → behind at r ≡ number_in text at
   unfolding number_in
   number_is r e = ap (behind at) (e ∙ ap number_at (take_rest text at))
+
+  pub number_fails : (r : Result (ℤ × ℕ) Refusal) → r ≡ number_at (take (length text - at) (drop at text)) → is_ok r ≡ false → Err (Malformed at) ≡ number_in text at
+  number_fails (Ok x) e f = absurd (true≢false f)
+  number_fails (Err g) e f = number_is (Err g) e
 
   pub field_ok : (allowed : Allowed) (n : ℤ) (q : ℕ) → Ok (n, q) ≡ number_in text at → allows allowed n ≡ true → Ok (n, q) ≡ field_in allowed text at
   unfolding field_in
@@ -76,9 +78,9 @@ module _ (a : Asked) (bracket : ℕ) (text : List ℕ) (at : ℕ) where
   pub fits_not : false ≡ is_head a.head (take (length text - at) (drop at text)) → false ≡ fits_head a (drop at text)
   fits_not e = ap (λ t. t && eqb (spaces 0 (drop at text)) a.count) (e ∙ ap (is_head a.head) (take_rest text at))
 
-  pub fits_is : (n : ℕ) → true ≡ is_head a.head (take (length text - at) (drop at text)) → n ≡ count_by (λ b. eqb b 32) (take_while (λ b. not (eqb b 41)) (take (length text - at) (drop at text))) → eqb n a.count ≡ fits_head a (drop at text)
+  pub fits_is : (n : ℕ) → true ≡ is_head a.head (take (length text - at) (drop at text)) → n ≡ spaces 0 (take (length text - at) (drop at text)) → eqb n a.count ≡ fits_head a (drop at text)
   fits_is n e f =
-      let counted : n ≡ spaces 0 (drop at text) = omega (arith, f ∙ ap (λ l. count_by (λ b. eqb b 32) (take_while (λ b. not (eqb b 41)) l)) (take_rest text at), spaces_counted 0 (drop at text)) in
+      let counted = f ∙ ap (spaces 0) (take_rest text at) in
       ap (λ t. t && eqb n a.count) (e ∙ ap (is_head a.head) (take_rest text at)) ∙ ap (λ k. is_head a.head (drop at text) && eqb k a.count) counted
 
 head_short : (h bs : List ℕ) → is_head h bs ≡ true → length h ≤ length bs

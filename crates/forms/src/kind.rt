@@ -34,6 +34,7 @@ pub trait Kind {
         ensures { result ≡ empty };
 
     // The record with a number filled in, by the inner form that it stands in and its index there.
+    // By index, since a table of functions would be function pointers.
     fn fill(so_far: Self::Record, inner: usize, index: usize, number: i64) -> Self::Record
         ensures { result ≡ filled inner so_far index number };
 }

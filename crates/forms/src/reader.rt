@@ -6,7 +6,8 @@ ghost use Rattle.forms.specs.Reads.{told, form_in, list_on, Listed};
 use crate::kind::Kind;
 use terms::refusal::Refusal;
 
-// The text, and the place that is read next.
+// The text, and the place that is read next. The clauses of its public functions keep their names, where those within the crate
+// say the same in one word.
 #[derive(Drop)]
 pub struct Reader<'a> {
     pub(crate) text: &'a [u8],
@@ -56,13 +57,11 @@ impl Reader<'_> {
         ensures reads { ReadsLists K.Kind.head_of K.Kind.fields_of K.Kind.empty K.Kind.filled }
     {
         let head = K::first_head();
-        // By index, since nothing is known of a list that is written through `iter_mut().enumerate()`.
-        for count in 0..out.len() {
+        for (count, record) in out.iter_mut().enumerate() {
             if !self.begins_with(head) {
                 return Ok(count);
             }
-            let record = self.form::<K>()?;
-            out[count] = record;
+            *record = self.form::<K>()?;
         }
         if self.begins_with(head) {
             Err(Refusal::WrongForm(self.at))

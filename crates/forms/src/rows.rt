@@ -8,7 +8,8 @@ ghost use Rattle.terms.specs.Halves.{points};
 
 use crate::field::{Allowed, Field};
 use crate::reader::Reader;
-use terms::half::{COLUMNS, Half};
+use terms::amounts::MOST_PRICE;
+use terms::half::{COLUMNS, Half, VOLATILITIES};
 use terms::refusal::Refusal;
 
 const LINE: Field = Field {
@@ -27,10 +28,10 @@ const COLUMN: Field = Field {
 fn allowed_in(column: usize) -> Allowed
     ensures { result ≡ price_allowed column }
 {
-    if column < 3 {
-        Allowed::Between(0, 10_000_000)
+    if column < VOLATILITIES {
+        Allowed::Between(0, MOST_PRICE)
     } else {
-        Allowed::Between(-10_000_000, 10_000_000)
+        Allowed::Between(-MOST_PRICE, MOST_PRICE)
     }
 }
 
@@ -80,6 +81,7 @@ impl Reader<'_> {
         requires { field.now.count ≡ 1 }
         ensures { Moves (due_in (asked field.now) due bracket) self.old self.new result }
     {
+        // A list of one, so that one function reads the inner forms of a row.
         let mut number = [0];
         self.inner_numbers(field, &mut number)?;
         if is_due(due, number[0]) {
@@ -124,6 +126,8 @@ impl Reader<'_> {
         ensures reads { ReadsRows }
     {
         let size = half.points();
+        // The end is counted by hand: tried `chunks_exact_mut` and `split_at_mut`, but no proof closed, since of a list that a loop
+        // writes through them nothing is known behind the loop.
         let mut end = 0;
         // The caller counts rows, and may stop within a line, so that no loop over lines holds one over columns.
         for index in 0..count {

@@ -1,8 +1,8 @@
 // The steps of the reader, from a byte to an inner form: each answers what stands at the reader's place, and moves behind it.
-ghost use Rattle.std.specs.Prelude.{◌≡◌, ◌+◌, ◌==◌, not, drop, count_by, take_while};
+ghost use Rattle.std.specs.Prelude.{◌≡◌, ◌+◌, drop};
 ghost use Rattle.forms.specs.Fields.{asked};
 ghost use Rattle.forms.specs.Moves.{Moves};
-ghost use Rattle.forms.specs.Reads.{stands, byte_in, is_head, number_in, field_in, spaced_in, open_in, fits_head, head_in, numbers_in, inner_in, inners_in, begins, outer_in, close_in};
+ghost use Rattle.forms.specs.Reads.{stands, byte_in, is_head, spaces, number_in, field_in, spaced_in, open_in, fits_head, head_in, numbers_in, inner_in, inners_in, begins, outer_in, close_in};
 
 use crate::field::{Allowed, Field};
 use crate::kind::Kind;
@@ -36,9 +36,9 @@ impl Reader<'_> {
     fn plain_number(&mut self) -> Result<i64, Refusal>
         ensures { Moves number_in self.old self.new result }
     {
-        let Ok((value, taken)) = number(&self.text[self.at..]) else {
-            return Err(Refusal::Malformed(self.at));
-        };
+        let (value, taken) = number(&self.text[self.at..]).map_err(|_| Refusal::Malformed(
+            self.at,
+        ))?;
         self.at += taken;
         Ok(value)
     }
@@ -184,7 +184,7 @@ fn same_head(head: &[u8], text: &[u8]) -> bool
 
 // How many numbers stand in an inner form, by the spaces before its closing bracket.
 fn count_spaces(text: &[u8]) -> usize
-    ensures { result ≡ count_by (λ b. b == 32) (take_while (λ b. not (b == 41)) text.now) }
+    ensures { result ≡ spaces 0 text.now }
 {
     text.iter()
         .take_while(|byte| **byte != b')')

@@ -6,7 +6,6 @@ use terms::refusal::Refusal;
 
 #[test]
 fn families_in_a_list(rt: HostRuntime) {
-    let none = Family { rule: 0, window: 0 };
     let cases: [(&[u8], Result<usize, Refusal>); 4] = [
         (b"", Ok(0)),
         (b"(month (basket 0))\n", Ok(0)),
@@ -20,7 +19,7 @@ fn families_in_a_list(rt: HostRuntime) {
         ),
     ];
     for (text, answer) in cases {
-        let mut families = [none, none];
+        let mut families = [Family::default(); 2];
         assert_eq!(rt;
             read_from(text).list::<kinds::FamilyForm>(&mut families),
             answer

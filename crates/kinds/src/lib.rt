@@ -7,6 +7,7 @@ ghost use Rattle.kinds.specs.Filled.{rate_with, limit_with};
 
 use forms::field::{Allowed, Field};
 use forms::kind::Kind;
+use terms::amounts::{MOST_CASH, MOST_CONTRACTS, MOST_PRICE};
 use terms::cards::{Basket, Family, Held, Limits, Line, Month, Rates};
 use terms::half::Half;
 
@@ -44,6 +45,9 @@ fn limit(so_far: Limits, index: usize, number: i64) -> Limits
     }
 }
 
+// The numbers that a price may be.
+const PRICE: Allowed = Allowed::Between(0, MOST_PRICE);
+
 // What both kinds of the grid's form ask for.
 const HALF: &[Field] = &[Field {
     head: b"half",
@@ -51,7 +55,7 @@ const HALF: &[Field] = &[Field {
     allowed: Allowed::HalfSize,
 }];
 
-// The form of a grid, with its half as a number.
+// The form of a grid, for callers that read its half as a number.
 pub struct GridForm;
 
 impl Kind for GridForm {
@@ -304,12 +308,12 @@ impl Kind for FutureForm {
         Field {
             head: b"price",
             count: 1,
-            allowed: Allowed::Between(0, 10_000_000),
+            allowed: PRICE,
         },
         Field {
             head: b"spot",
             count: 1,
-            allowed: Allowed::Between(0, 10_000_000),
+            allowed: PRICE,
         },
         Field {
             head: b"change",
@@ -324,7 +328,7 @@ impl Kind for FutureForm {
         Field {
             head: b"limits",
             count: 2,
-            allowed: Allowed::Between(0, 10_000),
+            allowed: Allowed::Between(0, MOST_CONTRACTS),
         },
     ];
 
@@ -433,7 +437,7 @@ impl Kind for CashForm {
     const FIELDS: &'static [Field] = &[Field {
         head: b"amount",
         count: 1,
-        allowed: Allowed::Between(0, 100_000_000_000_000),
+        allowed: Allowed::Between(0, MOST_CASH),
     }];
 
     fn first_head() -> &'static [u8] {
@@ -479,12 +483,12 @@ impl Kind for HeldForm {
         Field {
             head: b"net",
             count: 1,
-            allowed: Allowed::Between(-10_000, 10_000),
+            allowed: Allowed::Between(-MOST_CONTRACTS, MOST_CONTRACTS),
         },
         Field {
             head: b"price",
             count: 1,
-            allowed: Allowed::Between(0, 10_000_000),
+            allowed: PRICE,
         },
     ];
 
@@ -518,7 +522,8 @@ impl Kind for HeldForm {
     }
 }
 
-// An order as a file gives it: its numbers are judged where it is placed.
+// An order as a file gives it: its numbers are judged where it is placed. They are those of a held record, but of another
+// meaning: none is judged here.
 #[derive(Clone, Copy, PartialEq, Eq, Debug, Default)]
 pub struct Order {
     pub line: i64,

@@ -1,5 +1,5 @@
 -- What a part of the file was read into, by cases.
-use Rattle.std.proofs.Common.{◌≡◌, ℕ, List, Ok, Err, Result, sym, refl, ap, subst}
+use Rattle.std.proofs.Common.{◌≡◌, ℕ, List, Ok, Err, Result, sym, refl, ap, ◌∙◌, subst}
 use Rattle.terms.specs.declared.refusal.Refusal.{Refusal}
 use Rattle.terms.proofs.Passed.{err_is_ok}
 use Rattle.std.specs.Result.{IsErrAnd}
@@ -17,6 +17,10 @@ use Rattle.load.specs.Loading.{next, loaded_of, Kept}
 pub all_long : {a b c d e f g a' b' c' d' e' f' g' : ℕ} → a ≡ a' → b ≡ b' → c ≡ c' → d ≡ d' → e ≡ e' → f ≡ f' → g ≡ g' →
     ◌≡◌ {A = Lengths} (record { families = a; baskets = b; months = c; lines = d; prices = e; held = f; orders = g }) (record { families = a'; baskets = b'; months = c'; lines = d'; prices = e'; held = f'; orders = g' })
 all_long p q r s t u v = λ i. record { families = p i; baskets = q i; months = r i; lines = s i; prices = t i; held = u i; orders = v i }
+
+-- likewise where a later step wrote to the prices alone
+pub prices_long : (l m : Lengths) (n : ℕ) → l ≡ m → n ≡ l.prices → ◌≡◌ {A = Lengths} (record { families = l.families; baskets = l.baskets; months = l.months; lines = l.lines; prices = n; held = l.held; orders = l.orders }) m
+prices_long l m n f e = ap (λ k. record { families = l.families; baskets = l.baskets; months = l.months; lines = l.lines; prices = k; held = l.held; orders = l.orders }) e ∙ f
 
 module _ {X N : Type 0} (counts : X → N) (with : X → Contents → Contents) (t : Told X) (at : ℕ) (before after : Contents) where
   pub read_ok : (x : X) (n : N) → Ok (x, at) ≡ t → n ≡ counts x → after ≡ with x before → Read counts with t (Ok n) at before after

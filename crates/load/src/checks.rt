@@ -51,7 +51,8 @@ pub(crate) fn text_fits(text: &[u8]) -> Result<(), Refusal>
     Ok(())
 }
 
-// Whether the cards and held records in use fit together.
+// Whether the cards and held records in use fit together. Their judge answers a place, and not a refusal: the caller says which
+// refusal it is.
 pub(crate) fn cards_fit(used: &Loaded, lists: &Lists) -> Result<(), Refusal>
     requires { Inside used.now (contents_of lists.now) }
     ensures { result ≡ decided (used_checks used.now (contents_of lists.now)) tt }

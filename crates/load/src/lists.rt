@@ -4,6 +4,7 @@ ghost use Rattle.load.specs.Days.{contents_of, lengths_of, zeros};
 
 use kinds::Order;
 use terms::cards::{Basket, Family, Held, Line, Month};
+use terms::half::{COLUMNS, MOST_POINTS};
 
 // The length that is wanted of each list.
 pub const FAMILIES: usize = 2;
@@ -13,10 +14,12 @@ pub const BASKETS: usize = 4;
 pub const MONTHS: usize = 8;
 
 pub const LINES: usize = 16;
-// 15 options, 7 columns, 17 points
-pub const PRICES: usize = 1_785;
 
-pub const HELD: usize = 16;
+// A row for each column of each option, since one line at least is a future, and a price for each point.
+pub const PRICES: usize = (LINES - 1) * COLUMNS * MOST_POINTS;
+
+// A line is held once at most.
+pub const HELD: usize = LINES;
 
 pub const ORDERS: usize = 2_000;
 
@@ -27,13 +30,13 @@ pub struct Lists<'a> {
     pub months: &'a mut [Month],
     // the futures first, then the options
     pub lines: &'a mut [Line],
-    // those of the options, row after row
+    // those of the options, row after row. Flat, since the length of a row is known only when the half has been read.
     pub prices: &'a mut [i64],
     pub held: &'a mut [Held],
     pub orders: &'a mut [Order],
 }
 
-// How many records each list holds.
+// How many records each list holds: beside `Lists`, so that what is checked or promised of the lengths alone can be said of them.
 #[derive(Clone, Copy)]
 pub struct Lengths {
     pub families: usize,

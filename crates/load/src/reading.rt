@@ -26,9 +26,8 @@ fn some<K: Kind>(reader: &mut Reader, out: &mut [K::Record]) -> Result<usize, Re
     }
 }
 
-// The reader and the lists are two borrows: a struct of both would hold a `&mut` of lists that are lent already.
-
-// The families, the baskets and the months; answers how many of each.
+// The families, the baskets and the months; answers how many of each. Tried: a struct that holds the reader and the lent lists,
+// with the four parts as its methods; no proof of `day` is made then, since the lists behind the struct's `&mut` are lent in turn.
 fn cards(reader: &mut Reader, lists: &mut Lists) -> Result<(usize, usize, usize), Refusal>
     ensures { ReadsInto (λ x. (length x.0, length x.1, length x.2)) with_cards cards_in reader.old reader.new lists.old lists.new result }
 {

@@ -1,11 +1,7 @@
 // Good texts, and what becomes of them where something in them is changed.
-use crate::lending::{changed, joined, told};
+use crate::lending::{FUTURE, changed, joined, told};
 use std::test::Fail;
 use terms::refusal::Refusal;
-
-// One future.
-const FUTURE: &str =
-    "(grid (half 1))\n(family (rule 1) (window 0))\n(basket (family 0) (rule 1))\n(month (basket 0))\n(future (month 0) (price 100000) (spot 100000) (change 0) (rates 1000 1500 2000) (limits 10 20))\n(cash (amount 500000))\n";
 
 // One future and one option on it, with its rows.
 const OPTION: &str =

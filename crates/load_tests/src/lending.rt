@@ -1,24 +1,28 @@
 // Lists to lend, and texts made from others.
 use kinds::Order;
-use load::lists::Lists;
+use load::lists::{BASKETS, FAMILIES, HELD, LINES, Lists, MONTHS, ORDERS, PRICES};
 use load::loading::{Loaded, load};
 use std::alloc::Global;
 use std::test::Fail;
 use terms::cards::{Basket, Family, Held, Line, Month};
 use terms::refusal::Refusal;
 
+// A text with one future.
+pub const FUTURE: &str =
+    "(grid (half 1))\n(family (rule 1) (window 0))\n(basket (family 0) (rule 1))\n(month (basket 0))\n(future (month 0) (price 100000) (spot 100000) (change 0) (rates 1000 1500 2000) (limits 10 20))\n(cash (amount 500000))\n";
+
 // What is answered of a text that is read into lists of the right lengths.
 pub fn answer(text: &[u8]) -> Result<Loaded, Refusal> {
     load(
         text,
         &mut Lists {
-            families: &mut [Family::default(); 2],
-            baskets: &mut [Basket::default(); 4],
-            months: &mut [Month::default(); 8],
-            lines: &mut [Line::default(); 16],
-            prices: &mut [0; 1_785],
-            held: &mut [Held::default(); 16],
-            orders: &mut [Order::default(); 2_000],
+            families: &mut [Family::default(); FAMILIES],
+            baskets: &mut [Basket::default(); BASKETS],
+            months: &mut [Month::default(); MONTHS],
+            lines: &mut [Line::default(); LINES],
+            prices: &mut [0; PRICES],
+            held: &mut [Held::default(); HELD],
+            orders: &mut [Order::default(); ORDERS],
         },
     )
 }

@@ -1,5 +1,6 @@
-// What lists hold, how long they must be, and how many forms of a kind there may be.
-use crate::lending::told;
+// What lists hold, how long they must be, and how many forms of a kind there may be. The lengths stand as numbers, so that
+// these tests fall where a constant moves.
+use crate::lending::{FUTURE, told};
 use kinds::Order;
 use load::lists::Lists;
 use load::loading::{Loaded, load};
@@ -231,13 +232,13 @@ fn lists_come_before_the_text(rt: HostRuntime) {
     let answer = load(
         &[b'x'; 65_537],
         &mut Lists {
-            families: &mut [family(0); 3],
-            baskets: &mut [basket(0); 4],
-            months: &mut [month(0); 8],
-            lines: &mut [line(0); 16],
+            families: &mut [Family::default(); 3],
+            baskets: &mut [Basket::default(); 4],
+            months: &mut [Month::default(); 8],
+            lines: &mut [Line::default(); 16],
             prices: &mut [0; 1_785],
-            held: &mut [held(0); 1],
-            orders: &mut [order(0); 2_000],
+            held: &mut [Held::default(); 1],
+            orders: &mut [Order::default(); 2_000],
         },
     );
     assert_eq!(rt; answer, Err(Refusal::WrongLength(2)));
@@ -252,10 +253,7 @@ fn length_of_the_text(rt: HostRuntime) {
 // As many orders as fill a text: 1,866 of them, and the text has 65,536 bytes.
 #[test]
 fn a_text_of_the_greatest_length(rt: HostRuntime) -> Result<(), Fail> {
-    let mut text = String::from_str(
-        rt.alloc(),
-        "(grid (half 1))\n(family (rule 1) (window 0))\n(basket (family 0) (rule 1))\n(month (basket 0))\n(future (month 0) (price 100000) (spot 100000) (change 0) (rates 1000 1500 2000) (limits 10 20))\n(cash (amount 500000))\n",
-    )?;
+    let mut text = String::from_str(rt.alloc(), FUTURE)?;
     for _ in 0..1_865 {
         text.push_str("(order (line 0) (net 1) (price 1))\n")?;
     }

@@ -62,7 +62,8 @@ fn zero(rest: &[u8]) -> Result<(i64, usize), Refusal>
 }
 
 // The digits at the front of `rest`, behind the digit `first`: the number that they all write, and how many they are.
-// A digit too many is refused at its place, counted from `first`.
+// A digit too many is refused at its place, counted from `first`. The error is the place alone, since a minus before the digits
+// moves it by one.
 fn digits_on(first: u8, rest: &[u8]) -> Result<(u64, usize), usize>
     requires { (48 ≤ first) × (first ≤ 57) }
     ensures answer { result ≡ digits_on 1 (first - 48) rest.now }

@@ -3,7 +3,7 @@
 ghost use Rattle.std.specs.Prelude.{◌≡◌, ◌+◌, ◌&&◌, None, ◌==◌, nat_lt};
 ghost use Rattle.std.specs.Char.{is_ascii_digit, is_ascii_lowercase};
 ghost use Rattle.text.specs.Grammar.{AcceptsWritings, OneReading, RefusesFirst};
-ghost use Rattle.text.specs.Shape.{when, step, more_forms, more_numbers, ends_at, malformed_at};
+ghost use Rattle.text.specs.Shape.{when, step, ends_at, malformed_at};
 
 use crate::number::MOST;
 
@@ -30,7 +30,8 @@ enum State {
     OuterClosed,
 }
 
-// The first byte that cannot stand where it does, or the text's length where it cannot end there; none where the text is well formed.
+// The first byte that cannot stand where it does, or the text's length where it cannot end there; none where the text is well
+// formed. It answers a place, and not a refusal: the caller says which refusal it is.
 pub fn malformed(text: &[u8]) -> Option<usize>
     ensures answer { result ≡ malformed_at text.now }
     ensures accepts { AcceptsWritings }
@@ -64,15 +65,27 @@ fn next(state: State, c: char) -> Option<State>
     match state {
         State::Line => open(c, State::OuterOpen),
         State::OuterOpen => letter(c, State::OuterHead),
-        State::OuterHead => letter(c, State::OuterHead).or(more_forms(c)),
+        State::OuterHead => letter(c, State::OuterHead).or(more(
+            c,
+            State::OuterSpace,
+            State::OuterClosed,
+        )),
         State::OuterSpace => open(c, State::InnerOpen),
         State::InnerOpen => letter(c, State::InnerHead),
-        State::InnerHead => letter(c, State::InnerHead).or(more_numbers(c)),
+        State::InnerHead => letter(c, State::InnerHead).or(more(
+            c,
+            State::InnerSpace,
+            State::InnerClosed,
+        )),
         State::InnerSpace => first_of_number(c),
         State::Minus => first_digit(c),
-        State::Zero => more_numbers(c),
-        State::Digits(count) => next_digit(count, c).or(more_numbers(c)),
-        State::InnerClosed => more_forms(c),
+        State::Zero => more(c, State::InnerSpace, State::InnerClosed),
+        State::Digits(count) => next_digit(count, c).or(more(
+            c,
+            State::InnerSpace,
+            State::InnerClosed,
+        )),
+        State::InnerClosed => more(c, State::OuterSpace, State::OuterClosed),
         State::OuterClosed => end_of_line(c),
     }
 }
@@ -127,24 +140,13 @@ fn end_of_line(c: char) -> Option<State>
     }
 }
 
-// What may follow a head or an inner form, within an outer form.
-fn more_forms(c: char) -> Option<State>
-    ensures { result ≡ more_forms c }
+// What may follow a head, an inner form or a number: a space before one more, or the closing bracket.
+fn more(c: char, space: State, closed: State) -> Option<State>
+    ensures { result ≡ when (c == 32) space (when (c == 41) closed None) }
 {
     match c {
-        ' ' => Some(State::OuterSpace),
-        ')' => Some(State::OuterClosed),
-        _ => None,
-    }
-}
-
-// What may follow a head or a number, within an inner form.
-fn more_numbers(c: char) -> Option<State>
-    ensures { result ≡ more_numbers c }
-{
-    match c {
-        ' ' => Some(State::InnerSpace),
-        ')' => Some(State::InnerClosed),
+        ' ' => Some(space),
+        ')' => Some(closed),
         _ => None,
     }
 }

@@ -1,11 +1,10 @@
-use Rattle.std.proofs.Common.{◌≡◌, ◌*◌, [], length, sym, refl, ap, ◌∙◌, arith}
+use Rattle.std.proofs.Common.{◌*◌, [], length, sym, refl, ap, ◌∙◌, arith}
 use Rattle.forms.specs.Rows.{rows_in}
 use Rattle.forms.proofs.Told.{then_ok, then_err}
 use Rattle.forms.proofs.RowTurns.{listed_yes, listed_no}
-use Rattle.load.specs.declared.lists.Lengths.{Lengths}
 use Rattle.load.specs.Days.{contents_of, lengths_of}
 use Rattle.load.specs.Reading.{over, contracts_in}
-use Rattle.load.proofs.Parts.{read_ok, read_err, read_yes, read_no, stopped_part}
+use Rattle.load.proofs.Parts.{prices_long, read_ok, read_err, read_yes, read_no, stopped_part}
 use Rattle.load.proofs.Rooms.{lines_room}
 use Rattle.load.proofs.reading.contracts.Goals as goal
 
@@ -25,7 +24,6 @@ overflow_mul-options c =
 pub returns-in_err-prices : goal.returns-in_err-prices
 unfolding contracts_in
 returns-in_err-prices c =
-    let prices_long : length c.rows.new.out ≡ length c.lines.new.lists.prices.now = omega arith in
     let first = c.in_ok-futures.ensures in
     let lines = read_yes _ _ _ _ _ _ _ first.answer in
     let tells = c.in_err-prices.ensures in
@@ -35,12 +33,11 @@ returns-in_err-prices c =
     listed_no _ _ _ _ _ tells.answer
     ∙ (λ i. rows_in (lines.2 i).0 half (first.same i) (length (lines.3 i).prices) (7 * (lines.2 i).1) 0 [] at)
     in
-    stopped_part _ _ c.from_residual-in_err-prices.ensures.1 (record { answer = read_err _ _ _ _ _ _ _ (then_ok _ _ _ _ _ lines.1 (then_err _ _ _ next)); long = (λ i. record { families = (first.long i).families; baskets = (first.long i).baskets; months = (first.long i).months; lines = (first.long i).lines; prices = (prices_long ∙ ap (λ (l : Lengths). l.prices) first.long) i; held = (first.long i).held; orders = (first.long i).orders }); same = tells.same ∙ first.same })
+    stopped_part _ _ c.from_residual-in_err-prices.ensures.1 (record { answer = read_err _ _ _ _ _ _ _ (then_ok _ _ _ _ _ lines.1 (then_err _ _ _ next)); long = prices_long _ _ _ first.long (omega arith); same = tells.same ∙ first.same })
 
 pub returns : goal.returns
 unfolding contracts_in
 returns c =
-    let prices_long : length c.rows.new.out ≡ length c.lines.new.lists.prices.now = omega arith in
     let first = c.in_ok-futures.ensures in
     let lines = read_yes _ _ _ _ _ _ _ first.answer in
     let tells = c.in_ok-prices.ensures in
@@ -55,6 +52,6 @@ returns c =
           (then_ok _ _ _ _ _ lines.1 (then_ok _ _ _ _ _ next refl))
           (λ i. ((lines.2 i).0, (lines.2 i).1, prices.2 i))
           (λ i. record { families = (lines.3 i).families; baskets = (lines.3 i).baskets; months = (lines.3 i).months; lines = (lines.3 i).lines; prices = whole i; held = (lines.3 i).held; orders = (lines.3 i).orders });
-      long = (λ i. record { families = (first.long i).families; baskets = (first.long i).baskets; months = (first.long i).months; lines = (first.long i).lines; prices = (prices_long ∙ ap (λ (l : Lengths). l.prices) first.long) i; held = (first.long i).held; orders = (first.long i).orders });
+      long = prices_long _ _ _ first.long (omega arith);
       same = tells.same ∙ first.same;
     }

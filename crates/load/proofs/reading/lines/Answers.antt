@@ -10,9 +10,8 @@ use Rattle.load.proofs.reading.lines.Goals as goal
 pub returns-in_err-futures : goal.returns-in_err-futures
 unfolding lines_in
 returns-in_err-futures c =
-    let lines_long : length c.some.new.out ≡ length c.args.lists.now.lines.now = omega arith in
     let tells = c.in_err-futures.ensures in
-    stopped_part _ _ c.from_residual.ensures.1 (record { answer = read_err _ _ _ _ _ _ _ (then_err _ _ _ (listed_no _ _ _ _ _ tells.answer)); long = all_long refl refl refl lines_long refl refl refl; same = tells.same })
+    stopped_part _ _ c.from_residual.ensures.1 (record { answer = read_err _ _ _ _ _ _ _ (then_err _ _ _ (listed_no _ _ _ _ _ tells.answer)); long = all_long refl refl refl (omega arith) refl refl refl; same = tells.same })
 
 pub options_behind-requires : goal.options_behind-requires
 options_behind-requires c =
@@ -22,19 +21,17 @@ options_behind-requires c =
 pub returns-in_err-options : goal.returns-in_err-options
 unfolding lines_in
 returns-in_err-options c =
-    let lines_long : length c.options_behind.new.lines ≡ length c.args.lists.now.lines.now = omega arith in
     let first = c.in_ok-futures.ensures in
     let futures = listed_yes _ _ _ _ _ first.answer in
     let tells = c.in_err-options.ensures.behind in
     let at = c.some.new.reader.at in
     let room : length c.some.new.out - c.in_ok-futures.futures ≡ length c.args.lists.now.lines.now - length futures.0 = omega (arith, futures.2) in
     let next = listed_no _ _ _ _ _ tells.answer ∙ ap (λ n. any_at option_format c.some.new.reader.text.now n at) room ∙ ap (λ t. any_at option_format t (length c.args.lists.now.lines.now - length futures.0) at) first.same in
-    stopped_part _ _ c.from_residual-in_err-options.ensures.1 (record { answer = read_err _ _ _ _ _ _ _ (then_ok _ _ _ _ _ futures.1 (then_err _ _ _ next)); long = all_long refl refl refl lines_long refl refl refl; same = tells.same ∙ first.same })
+    stopped_part _ _ c.from_residual-in_err-options.ensures.1 (record { answer = read_err _ _ _ _ _ _ _ (then_ok _ _ _ _ _ futures.1 (then_err _ _ _ next)); long = all_long refl refl refl (omega arith) refl refl refl; same = tells.same ∙ first.same })
 
 pub returns : goal.returns
 unfolding lines_in
 returns c =
-    let lines_long : length c.options_behind.new.lines ≡ length c.args.lists.now.lines.now = omega arith in
     let first = c.in_ok-futures.ensures in
     let futures = listed_yes _ _ _ _ _ first.answer in
     let tells = c.in_ok-options.ensures.behind in
@@ -56,6 +53,6 @@ returns c =
           (then_ok _ _ _ _ _ futures.1 (then_ok _ _ _ _ _ next refl))
           (λ i. (futures.2 i, options.2 i))
           (λ i. record { families = lists.families.now; baskets = lists.baskets.now; months = lists.months.now; lines = whole i; prices = lists.prices.now; held = lists.held.now; orders = lists.orders.now });
-      long = all_long refl refl refl lines_long refl refl refl;
+      long = all_long refl refl refl (omega arith) refl refl refl;
       same = tells.same ∙ first.same;
     }
