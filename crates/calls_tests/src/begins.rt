@@ -162,7 +162,10 @@ fn bad_held_records(rt: HostRuntime) -> Result<(), Fail> {
         assert_eq!(rt; begun(rt.alloc(), &[FUTURE], GOOD, &[record], -1)?, told);
     }
     let twice = [held(0), held(0)];
-    assert_eq!(rt; begun(rt.alloc(), &[FUTURE], GOOD, &twice, -1)?, Err((4, 5)));
+    assert_eq!(rt;
+        begun(rt.alloc(), &[FUTURE], GOOD, &twice, -1)?,
+        Err((4, 5))
+    );
     Ok(())
 }
 
