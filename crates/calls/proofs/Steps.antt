@@ -19,6 +19,17 @@ decided_none [] x e = refl
 decided_none (None ∷ cs) x e = decided_none cs x e
 decided_none (Some why ∷ cs) x e = absurd (let z : ◌≡◌ {A = ℕ} 0 1 = cc in omega arith)
 
+-- what checks decide says what they decide alone
+pub judged_err : {X : Type 0} (cs : List (Option Refusal)) (x : X) (why : Refusal) → decided cs x ≡ Err why → judged cs ≡ Err why
+judged_err [] x why e = absurd (let z : ◌≡◌ {A = ℕ} 0 1 = cc in omega arith)
+judged_err (None ∷ cs) x why e = judged_err cs x why e
+judged_err (Some first ∷ cs) x why e = let same : first ≡ why = cc in ap Err same
+
+pub judged_ok : {X : Type 0} (cs : List (Option Refusal)) (x y : X) → decided cs x ≡ Ok y → (judged cs ≡ Ok tt) × (y ≡ x)
+judged_ok [] x y e = let same : x ≡ y = cc in (refl, sym same)
+judged_ok (None ∷ cs) x y e = judged_ok cs x y e
+judged_ok (Some why ∷ cs) x y e = absurd (let z : ◌≡◌ {A = ℕ} 0 1 = cc in omega arith)
+
 pub none_refuses : (cs : List (Option Refusal)) → judged cs ≡ Ok tt → NoneRefuses cs
 none_refuses [] e = tt
 none_refuses (None ∷ cs) e = (refl, none_refuses cs e)

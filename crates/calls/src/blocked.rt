@@ -20,7 +20,7 @@ impl<B: Bank> Account<B> {
         ensures { as_book result ≡ record { positions = self.now.positions.items; orders = orders.now } }
     {
         Book {
-            positions: self.positions.as_slice(),
+            positions: &self.positions,
             orders,
         }
     }
@@ -30,7 +30,7 @@ impl<B: Bank> Account<B> {
         ensures amount { result.amount ≡ margin_of (state_of B.Bank.meaning self.now) }
         ensures parts { BlockedFor (B.Bank.meaning self.now.bank) (deck_cards self.now.deck) (book_of (state_of B.Bank.meaning self.now)) result }
     {
-        let rests = rests(self.orders.as_slice());
+        let rests = rests(&self.orders);
         let book = self.book_with(&rests[..self.orders.len()]);
         margin(&self.bank, &self.deck, book)
     }

@@ -1,13 +1,14 @@
 // Deposits and withdrawals.
-ghost use Rattle.std.specs.Prelude.{◌≡◌, ◌+◌, nat_le};
+ghost use Rattle.std.specs.Prelude.{◌≡◌, ◌+◌, nat_le, unsigned_abs};
+ghost use Rattle.terms.specs.Checks.{decided};
 ghost use Rattle.account.specs.declared.call.Call.TheVariants.{Deposit, Withdraw};
 ghost use Rattle.account.specs.Account.{Collateral, margin_of, checks, step};
-ghost use Rattle.calls.specs.Accounts.{state_of, told_as, judged};
+ghost use Rattle.calls.specs.Accounts.{state_of, told_as};
 
 use crate::accounts::Account;
-use crate::limits::MOST_COLLATERAL;
+use crate::limits::amount_of;
 use banks::bank::Bank;
-use terms::cards::between;
+use terms::amounts::MOST_CASH;
 use terms::refusal::Refusal;
 
 impl<B: Bank> Account<B> {
@@ -15,42 +16,40 @@ impl<B: Bank> Account<B> {
     pub fn deposit(&mut self, amount: i64) -> Result<u64, Refusal>
         ensures { (state_of B.Bank.meaning self.new, told_as Collateral result) ≡ step (state_of B.Bank.meaning self.old) (Deposit amount) }
     {
-        self.check_deposit(amount)?;
-        self.collateral += amount.unsigned_abs();
+        let added = self.deposited(amount)?;
+        self.collateral += added;
         Ok(self.collateral)
     }
 
-    fn check_deposit(&self, amount: i64) -> Result<(), Refusal>
-        ensures { result ≡ judged (checks (state_of B.Bank.meaning self.now) (Deposit amount)) }
+    // What a deposit adds.
+    fn deposited(&self, amount: i64) -> Result<u64, Refusal>
+        ensures { result ≡ decided (checks (state_of B.Bank.meaning self.now) (Deposit amount)) (unsigned_abs amount) }
     {
-        if !between(amount, 0, MOST_COLLATERAL as i64) {
-            return Err(Refusal::BadAmount);
-        }
-        if self.collateral + amount.unsigned_abs() > MOST_COLLATERAL {
+        let added = amount_of(amount)?;
+        if self.collateral + added > MOST_CASH as u64 {
             return Err(Refusal::CollateralTooLarge);
         }
-        Ok(())
+        Ok(added)
     }
 
     // Takes off the collateral; answers the new collateral.
     pub fn withdraw(&mut self, amount: i64) -> Result<u64, Refusal>
         ensures { (state_of B.Bank.meaning self.new, told_as Collateral result) ≡ step (state_of B.Bank.meaning self.old) (Withdraw amount) }
     {
-        self.check_withdraw(amount)?;
-        self.collateral -= amount.unsigned_abs();
+        let taken = self.withdrawn(amount)?;
+        self.collateral -= taken;
         Ok(self.collateral)
     }
 
-    fn check_withdraw(&self, amount: i64) -> Result<(), Refusal>
-        ensures { result ≡ judged (checks (state_of B.Bank.meaning self.now) (Withdraw amount)) }
+    // What a withdrawal takes off.
+    fn withdrawn(&self, amount: i64) -> Result<u64, Refusal>
+        ensures { result ≡ decided (checks (state_of B.Bank.meaning self.now) (Withdraw amount)) (unsigned_abs amount) }
     {
-        if !between(amount, 0, MOST_COLLATERAL as i64) {
-            return Err(Refusal::BadAmount);
-        }
-        if !self.leaves_enough(amount.unsigned_abs()) {
+        let taken = amount_of(amount)?;
+        if !self.leaves_enough(taken) {
             return Err(Refusal::NotCovered);
         }
-        Ok(())
+        Ok(taken)
     }
 
     // Whether the margin is covered without that much of the collateral.

@@ -8,7 +8,7 @@ ghost use Rattle.calls.specs.Accounts.{state_of};
 ghost use Rattle.calls.specs.Begun.{BeginOutcome, CoverOutcome, with_cards};
 
 use crate::accounts::Account;
-use crate::limits::MOST_COLLATERAL;
+use crate::limits::amount_of;
 use crate::trades::Trade;
 use banks::bank::Bank;
 use cells::book::MOST_ORDERS;
@@ -16,7 +16,7 @@ use deck::deck::Deck;
 use deck::given::Given;
 use margin::book::Position;
 use std::alloc::{AllocError, Global};
-use terms::cards::{Held, between};
+use terms::cards::Held;
 use terms::fault::Fault;
 use terms::refusal::Refusal;
 
@@ -104,14 +104,13 @@ fn begin_with<B: Bank + Drop>(
     requires { first_unfit (deck_cards deck) held.now ≡ None }
     ensures { BeginOutcome B.Bank.meaning result (Ok (deck_cards deck)) (with_cards (B.Bank.meaning bank) (deck_cards deck) held.now collateral) }
 {
-    if !between(collateral, 0, MOST_COLLATERAL as i64) {
-        return Err(Refusal::BadAmount.into());
-    }
-    covered(opened(heap, bank, deck, held, collateral.unsigned_abs())?)
+    let collateral = amount_of(collateral)?;
+    covered(opened(heap, bank, deck, held, collateral)?)
 }
 
 // An account over a bank, with cards, held records and collateral in kopecks. It is refused by the first check that applies;
-// want of memory is an error apart, and no call after this one allocates.
+// want of memory is an error apart, and no call after this one allocates. What it is made of comes apart from the caller, and a
+// struct of it would live for this one call.
 pub fn begin<B: Bank + Drop>(
     heap: Global,
     bank: B,

@@ -39,7 +39,7 @@ fn state_after(state: OrderState, event: Event, left: u64) -> OrderState
 }
 
 // What an event leaves of so many contracts. Orders and events are public, and anyone may make large ones, so that their sizes
-// are asked for here.
+// are asked for here, and by the two that meet an event below.
 fn leaves(event: Event, left: i64) -> i64
     requires small { unsigned_abs left ≤ 10000 }
     requires event { SmallEvent event }

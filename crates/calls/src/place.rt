@@ -8,7 +8,7 @@ ghost use Rattle.account.specs.Account.{Numbered, quantity_fits, book_net_fits, 
 ghost use Rattle.calls.specs.Accounts.{state_of, told_as, margin_with, book_with, trial_checks, judged};
 
 use crate::accounts::Account;
-use crate::limits::{MOST_ACCEPTED, MOST_CONTRACTS, MOST_NET, MOST_PRICE};
+use crate::limits::{MOST_ACCEPTED, price_fits};
 use crate::rests::rests;
 use account::orders::{Order, OrderState};
 use banks::bank::Bank;
@@ -16,7 +16,7 @@ use cells::book::{Book, MOST_ORDERS};
 use cells::open::{open_buys, open_sells};
 use cover::margin;
 use margin::book::Open;
-use terms::cards::between;
+use terms::amounts::MOST_CONTRACTS;
 use terms::refusal::Refusal;
 
 // The order that a call asks for, of a line that there is.
@@ -34,7 +34,7 @@ fn asked(line: i64, quantity: i64, limit: i64) -> Open
 fn quantity_fits(contracts: u64) -> bool
     ensures { result ≡ quantity_fits (pos contracts) }
 {
-    (1..=MOST_CONTRACTS).contains(&contracts)
+    (1..=MOST_CONTRACTS as u64).contains(&contracts)
 }
 
 // Whether neither what a line may come to hold, nor what it may come to be short of, is too large.
@@ -43,18 +43,17 @@ fn net_fits(book: Book, line: usize) -> bool
     ensures { result ≡ book_net_fits (as_book book.entry) line }
 {
     let net = book.positions[line].net;
-    net + open_buys(book, line) <= MOST_NET && open_sells(book, line) - net <= MOST_NET
+    net + open_buys(book, line) <= MOST_CONTRACTS && open_sells(book, line) - net <= MOST_CONTRACTS
 }
 
 impl<B: Bank> Account<B> {
-    // Whether the line accepts so many contracts more. That there is such a line is a fact of this account, which no type of the
-    // line alone could hold.
-    fn count_fits(&self, line: usize, contracts: u64) -> bool
-        requires line { line < length self.now.positions.items }
-        requires contracts { contracts ≤ 10000 }
-        ensures { result ≡ nat_le (slice_index self.now.accepted.items line + contracts) 20000 }
+    // Whether the line of an order accepts its contracts too. That there is such a line is a fact of this account, which no type
+    // of the order alone could hold.
+    fn count_fits(&self, order: Open) -> bool
+        requires { order.line < length self.now.positions.items }
+        ensures { result ≡ nat_le (slice_index self.now.accepted.items order.line + unsigned_abs order.left) 20000 }
     {
-        self.accepted[line] + contracts <= MOST_ACCEPTED
+        self.accepted[order.line] + order.left.unsigned_abs() <= MOST_ACCEPTED
     }
 
     // Whether the collateral covers a book.
@@ -64,17 +63,16 @@ impl<B: Bank> Account<B> {
         margin(&self.bank, &self.deck, book).amount <= self.collateral
     }
 
-    // Checks an order of so many contracts of a line by the book that it makes.
-    fn check_trial<'a>(&'a self, book: Book<'a>, line: usize, contracts: u64) -> Result<(), Refusal>
-        requires line { line < length self.now.positions.items }
-        requires book { line < length book.positions.now }
-        requires contracts { contracts ≤ 10000 }
-        ensures { result ≡ judged (trial_checks (state_of B.Bank.meaning self.now) (as_book book.entry) line contracts) }
+    // Checks an order by the book that it makes.
+    fn check_trial<'a>(&'a self, book: Book<'a>, order: Open) -> Result<(), Refusal>
+        requires line { order.line < length self.now.positions.items }
+        requires book { order.line < length book.positions.now }
+        ensures { result ≡ judged (trial_checks (state_of B.Bank.meaning self.now) (as_book book.entry) order.line (unsigned_abs order.left)) }
     {
-        if !net_fits(book, line) {
+        if !net_fits(book, order.line) {
             return Err(Refusal::NetTooLarge);
         }
-        if !self.count_fits(line, contracts) {
+        if !self.count_fits(order) {
             return Err(Refusal::TooManyContracts);
         }
         if !self.covers(book) {
@@ -94,10 +92,10 @@ impl<B: Bank> Account<B> {
         if count >= MOST_ORDERS {
             return Err(Refusal::OrdersFull);
         }
-        let mut trial = rests(self.orders.as_slice());
+        let mut trial = rests(&self.orders);
         trial[count] = order;
         let book = self.book_with(&trial[..count + 1]);
-        self.check_trial(book, order.line, order.left.unsigned_abs())
+        self.check_trial(book, order)
     }
 
     // Checks an order.
@@ -110,7 +108,7 @@ impl<B: Bank> Account<B> {
         if !quantity_fits(quantity.unsigned_abs()) {
             return Err(Refusal::BadQuantity);
         }
-        if !between(limit, 0, MOST_PRICE) {
+        if !price_fits(limit) {
             return Err(Refusal::BadPrice);
         }
         self.check_with_book(asked(line, quantity, limit))

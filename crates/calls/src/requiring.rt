@@ -13,7 +13,8 @@ use banks::bank::Bank;
 use cover::Blocked;
 use std::array;
 
-// What each of so many families loses, and the first point of its worst.
+// What each of so many families loses, and the first point of its worst. They come in two lists side by side: both are public
+// fields of what cover answers.
 fn families(blocked: &Blocked, count: usize) -> [Option<FamilyWorst>; 2]
     requires losses { length blocked.now.losses ≡ 2 }
     requires worsts { length blocked.now.worsts ≡ 2 }

@@ -20,6 +20,8 @@ use terms::fault::Fault;
 use terms::refusal::Refusal;
 
 // The account takes the calls in their order; what it answers goes to the end of the list, which has room for it.
+// A loop, since each call meets the account that the one before left, and a chain tells nothing of a closure that changes what
+// it captures.
 fn take_all<B: Bank>(
     account: &mut Account<B>,
     calls: &[Call],

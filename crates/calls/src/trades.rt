@@ -3,17 +3,24 @@ ghost use Rattle.std.specs.Prelude.{◌≡◌, ◌≤◌, [], ◌∷◌, pos, �
 ghost use Rattle.terms.specs.Checks.{unless};
 ghost use Rattle.terms.specs.declared.refusal.Refusal.TheVariants.{MoreThanLeft, WorseThanLimit};
 ghost use Rattle.account.specs.declared.call.Call.TheVariants.{Cancel, Fill};
-ghost use Rattle.account.specs.Account.{Ended, StillLeft, no_worse, moved as moved_by, step};
+ghost use Rattle.account.specs.Account.{Ended, StillLeft, quantity_fits, no_worse, moved as moved_by, step};
 ghost use Rattle.calls.specs.Accounts.{state_of, told_as, MayMeet, judged};
 
 use crate::accounts::Account;
-use crate::limits::{MOST_CONTRACTS, MOST_PRICE};
+use crate::limits::price_fits;
 use crate::orders::{meet_at, place_of, with_sign_of};
 use account::orders::Event;
 use banks::bank::Bank;
 use margin::book::{Open, Position};
-use terms::cards::between;
+use terms::amounts::{GRAINS, MOST_CONTRACTS};
 use terms::refusal::Refusal;
+
+// Whether so many contracts may be filled at once.
+fn fill_fits(quantity: i64) -> bool
+    ensures { result ≡ quantity_fits quantity }
+{
+    (1..=MOST_CONTRACTS).contains(&quantity)
+}
 
 // A buy is filled at no more than its limit, a sell at no less.
 #[tactic(auto, unfolding(account::specs::Account::no_worse))]
@@ -41,13 +48,13 @@ fn check_fill(order: Open, quantity: i64, price: i64) -> Result<(), Refusal>
     Ok(())
 }
 
-// What contracts cost in grains, at 80,000 grains a kopeck.
+// What contracts cost in grains, at a kopeck each.
 fn in_grains(contracts: i64) -> i64
     requires { unsigned_abs contracts ≤ 10000 }
     ensures value { result ≡ pos 80000 *ℤ contracts }
     ensures size { unsigned_abs result ≤ 800000000 }
 {
-    80_000 * contracts
+    GRAINS as i64 * contracts
 }
 
 // Contracts at a price in kopecks, those bought positive and those sold negative.
@@ -93,10 +100,10 @@ impl<B: Bank> Account<B> {
     fn fillable(&self, number: i64, quantity: i64, price: i64) -> Result<usize, Refusal>
         ensures { MayMeet (state_of B.Bank.meaning self.now) number (Fill number quantity price) result }
     {
-        if !between(quantity, 1, MOST_CONTRACTS as i64) {
+        if !fill_fits(quantity) {
             return Err(Refusal::BadQuantity);
         }
-        if !between(price, 0, MOST_PRICE) {
+        if !price_fits(price) {
             return Err(Refusal::BadPrice);
         }
         let place = place_of(&self.orders, number).ok_or(Refusal::NoSuchOrder)?;

@@ -12,14 +12,14 @@ impl<B: Bank> Account<B> {
     pub fn positions(&self) -> &[Position]
         ensures { result.now ≡ (state_of B.Bank.meaning self.now).positions }
     {
-        self.positions.as_slice()
+        &self.positions
     }
 
     // The open orders, in the order of their numbers.
     pub fn open_orders(&self) -> &[Order]
         ensures { result.now ≡ (state_of B.Bank.meaning self.now).orders }
     {
-        self.orders.as_slice()
+        &self.orders
     }
 
     // The collateral, in kopecks.

@@ -5,7 +5,8 @@ use banks::strip::Strip;
 use calls::accounts::Account;
 use calls::opening::begin;
 use deck::given::Given;
-use std::alloc::Global;
+use std::alloc::{AllocError, Global};
+use std::test::Fail;
 use terms::cards::{Basket, Family, Held, Line, Month, Rates};
 use terms::fault::Fault;
 
@@ -32,12 +33,12 @@ const GOOD: Cards = Cards {
     futures: 1,
 };
 
-// The margin with which an account begins, or the number and the place of its refusal; want of memory has no number.
-fn told(begun: Result<Account<Strip>, Fault>) -> Told {
+// The margin with which an account begins, or the number and the place of its refusal; want of memory fails the test.
+fn told(begun: Result<Account<Strip>, Fault>) -> Result<Told, Fail> {
     match begun {
-        Ok(account) => Ok(account.margin().amount),
-        Err(Fault::Refused(why)) => Err(refused(why)),
-        Err(Fault::Memory) => Err((0, 0)),
+        Ok(account) => Ok(Ok(account.margin().amount)),
+        Err(Fault::Refused(why)) => Ok(Err(refused(why))),
+        Err(Fault::Memory) => Err(AllocError.into()),
     }
 }
 
@@ -54,7 +55,13 @@ fn line(month: i64, r1: i64) -> Line {
 }
 
 // Over a strip of these lines.
-fn begun(heap: Global, lines: &[Line], cards: Cards, held: &[Held], collateral: i64) -> Told {
+fn begun(
+    heap: Global,
+    lines: &[Line],
+    cards: Cards,
+    held: &[Held],
+    collateral: i64,
+) -> Result<Told, Fail> {
     let family = Family {
         rule: cards.rule,
         window: 0,
@@ -73,7 +80,7 @@ fn begun(heap: Global, lines: &[Line], cards: Cards, held: &[Held], collateral: 
         lines: &[line(cards.month, cards.first_rate)],
         futures: cards.futures,
     };
-    let bank = Strip::new(1, lines).map_err(refused)?;
+    let bank = Strip::new(1, lines)?;
     told(begin(heap, bank, &given, held, collateral))
 }
 
@@ -120,16 +127,18 @@ const CARDS: [(Cards, Told); 8] = [
 
 // The collateral is refused after all of them.
 #[test]
-fn bad_cards(rt: HostRuntime) {
-    for (cards, told) in CARDS.iter() {
-        assert_eq!(rt; begun(rt.alloc(), &[FUTURE], *cards, &[], -1), *told);
+fn bad_cards(rt: HostRuntime) -> Result<(), Fail> {
+    for (cards, told) in CARDS {
+        assert_eq!(rt; begun(rt.alloc(), &[FUTURE], cards, &[], -1)?, told);
     }
+    Ok(())
 }
 
 #[test]
-fn a_bank_of_other_lines(rt: HostRuntime) {
+fn a_bank_of_other_lines(rt: HostRuntime) -> Result<(), Fail> {
     let two = [FUTURE, FUTURE];
-    assert_eq!(rt; begun(rt.alloc(), &two, GOOD, &[], -1), Err((6, 0)));
+    assert_eq!(rt; begun(rt.alloc(), &two, GOOD, &[], -1)?, Err((6, 0)));
+    Ok(())
 }
 
 // The line, the net and the price of a held record, where the collateral is refused after it.
@@ -147,13 +156,17 @@ const RECORDS: [(i64, i64, i64, Told); 10] = [
 ];
 
 #[test]
-fn bad_held_records(rt: HostRuntime) {
+fn bad_held_records(rt: HostRuntime) -> Result<(), Fail> {
     for (line, net, price, told) in RECORDS {
         let record = Held { line, net, price };
-        assert_eq!(rt; begun(rt.alloc(), &[FUTURE], GOOD, &[record], -1), told);
+        assert_eq!(rt; begun(rt.alloc(), &[FUTURE], GOOD, &[record], -1)?, told);
     }
     let twice = [held(0), held(0)];
-    assert_eq!(rt; begun(rt.alloc(), &[FUTURE], GOOD, &twice, -1), Err((4, 5)));
+    assert_eq!(rt;
+        begun(rt.alloc(), &[FUTURE], GOOD, &twice, -1)?,
+        Err((4, 5))
+    );
+    Ok(())
 }
 
 // The collateral of an account that begins with 10 contracts.
@@ -167,10 +180,11 @@ const AMOUNTS: [(i64, Told); 6] = [
 ];
 
 #[test]
-fn bad_collateral(rt: HostRuntime) {
+fn bad_collateral(rt: HostRuntime) -> Result<(), Fail> {
     for (amount, told) in AMOUNTS {
         let records = [held(10)];
-        assert_eq!(rt; begun(rt.alloc(), &[FUTURE], GOOD, &records, amount), told);
+        assert_eq!(rt; begun(rt.alloc(), &[FUTURE], GOOD, &records, amount)?, told);
     }
-    assert_eq!(rt; begun(rt.alloc(), &[FUTURE], GOOD, &[], 0), Ok(0));
+    assert_eq!(rt; begun(rt.alloc(), &[FUTURE], GOOD, &[], 0)?, Ok(0));
+    Ok(())
 }

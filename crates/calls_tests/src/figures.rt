@@ -1,5 +1,5 @@
 // Margins of small accounts, worked by hand.
-use crate::markets::{FUTURE, NETTED, trade};
+use crate::markets::{FUTURE, NETTED, one_month, trade};
 use crate::tables::{Step, Told, follow};
 use banks::bank::Bank;
 use banks::pair::Pair;
@@ -134,13 +134,7 @@ fn hedged<B: Bank + Drop>(
     bank: B,
     steps: &[(Step, Told)],
 ) -> Result<(), Fail> {
-    let given = Given {
-        families: &[NETTED],
-        baskets: &[Basket { family: 0, rule: 1 }],
-        months: &[Month { basket: 0 }],
-        lines: &[FUTURE, FUTURE],
-        futures: 1,
-    };
+    let given = one_month(&[FUTURE, FUTURE]);
     let mut account = begin(heap, bank, &given, &HEDGED, 500_000)?;
     follow(rt, &mut account, steps);
     Ok(())

@@ -26,15 +26,20 @@ pub const FUTURE: Line = Line {
     limits: Limits { a: 10, b: 20 },
 };
 
-// An account on that future alone, over a grid of half 1.
-pub fn one_future(heap: Global, held: &[Held], collateral: i64) -> Result<Account<Strip>, Fault> {
-    let given = Given {
+// The cards of lines in one month of a netted basket, the first a future.
+pub fn one_month<'a>(lines: &'a [Line]) -> Given<'a> {
+    Given {
         families: &[NETTED],
         baskets: &[Basket { family: 0, rule: 1 }],
         months: &[Month { basket: 0 }],
-        lines: &[FUTURE],
+        lines,
         futures: 1,
-    };
+    }
+}
+
+// An account on that future alone, over a grid of half 1.
+pub fn one_future(heap: Global, held: &[Held], collateral: i64) -> Result<Account<Strip>, Fault> {
+    let given = one_month(&[FUTURE]);
     let bank = Strip::new(1, given.lines)?;
     begin(heap, bank, &given, held, collateral)
 }

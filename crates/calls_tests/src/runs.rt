@@ -1,5 +1,5 @@
 // Runs of calls: numbers, states and margins along the way.
-use crate::markets::{FUTURE, NETTED, one_future};
+use crate::markets::{FUTURE, one_future, one_month};
 use crate::tables::{Step, Told, follow, refused};
 use account::call::Call;
 use account::orders::{Order, OrderState};
@@ -8,11 +8,9 @@ use banks::strip::Strip;
 use calls::accounts::Account;
 use calls::answer::Answer;
 use calls::running::run;
-use deck::given::Given;
 use margin::book::Open;
 use std::process::Abort;
 use std::test::Fail;
-use terms::cards::{Basket, Month};
 use terms::refusal::Refusal;
 
 // Both sides of a line, and refused calls among others.
@@ -55,7 +53,7 @@ const CALLS: [Call; 12] = [
     Call::Cancel { number: 2 },
 ];
 
-// What each of them is told.
+// What each of them is told. Apart from the calls, which a run takes as one slice.
 const OUTCOMES: [Told; 12] = [
     Ok(1),
     Ok(2),
@@ -91,7 +89,7 @@ fn told_again<B: Bank>(
     account: &mut Account<B>,
     told: &[Result<Answer, Refusal>],
 ) {
-    assert_eq!(rt; told.len(), 12);
+    assert_eq!(rt; told.len(), OUTCOMES.len());
     for ((call, expected), answer) in CALLS.iter().zip(OUTCOMES.iter()).zip(told.iter()) {
         assert_eq!(rt; account.take(*call), *answer);
         assert_eq!(rt; heard(*answer), *expected);
@@ -100,13 +98,7 @@ fn told_again<B: Bank>(
 
 #[test]
 fn calls_in_a_run(rt: HostRuntime) -> Result<(), Fail> {
-    let given = Given {
-        families: &[NETTED],
-        baskets: &[Basket { family: 0, rule: 1 }],
-        months: &[Month { basket: 0 }],
-        lines: &[FUTURE],
-        futures: 1,
-    };
+    let given = one_month(&[FUTURE]);
     let bank = Strip::new(1, given.lines)?;
     let told = run(rt.alloc(), bank, &given, &[], 500_000, &CALLS)?;
     let mut account = one_future(rt.alloc(), &[], 500_000)?;

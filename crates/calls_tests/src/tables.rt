@@ -9,7 +9,8 @@ use std::array;
 use std::process::Abort;
 use terms::refusal::Refusal;
 
-// The number that a call answers, or the number and the place of its refusal.
+// The number that a call answers, or the number and the place of its refusal. By number and place, since the tests check the
+// numbers that are known outside the engine.
 pub type Told = Result<u64, (u8, usize)>;
 
 // A call, its numbers in their order; shorter to write in a table than `Call` with its named fields.
@@ -43,7 +44,7 @@ fn take<B: Bank>(account: &mut Account<B>, step: Step) -> Told {
     told.map_err(refused)
 }
 
-// All that an account shows, of up to two lines.
+// All that an account shows, of up to two lines. Arrays, since a copy of the lists would take the heap at every step.
 #[derive(Clone, Copy, PartialEq, Debug)]
 struct View {
     positions: [Option<Position>; 2],

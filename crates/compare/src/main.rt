@@ -59,11 +59,10 @@ fn main(rt: HostRuntime) -> anyhow::Result<()> {
 fn run(rt: &HostRuntime) -> anyhow::Result<()> {
     let mut text = Vec::new(rt.alloc());
     rt.stdin().read_to_end(&mut text)?;
-    let mut cases = Cases {
-        rest: text.as_slice(),
-    };
+    let mut cases = Cases { rest: &text };
     let mut count: usize = 0;
     let mut different: usize = 0;
+    // Each case is cut off the front, and its length is not known before it is read.
     while !cases.rest.is_empty() {
         if !agrees(rt, &mut cases)? {
             different = different.saturating_add(1);
@@ -94,6 +93,7 @@ fn agrees(rt: &HostRuntime, cases: &mut Cases) -> anyhow::Result<bool>
 }
 
 fn answered(heap: Global, file: &[u8]) -> anyhow::Result<String> {
+    // The same cases as in daybook; one function for both would have to take the writer.
     match answer(heap, file) {
         Ok(session) => Ok(session.to_string(heap)?),
         Err(Fault::Refused(why)) => Ok(Refused { why }.to_string(heap)?),

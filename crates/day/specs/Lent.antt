@@ -8,11 +8,11 @@ abbrev pub day_of : Day → load.Day
 day_of d =
     record {
       half = d.half;
-      families = d.families.now;
-      baskets = d.baskets.now;
-      months = d.months.now;
-      futures = take d.futures d.lines.now;
-      options = drop d.futures d.lines.now;
+      families = d.given.families.now;
+      baskets = d.given.baskets.now;
+      months = d.given.months.now;
+      futures = take d.given.futures d.given.lines.now;
+      options = drop d.given.futures d.given.lines.now;
       prices = d.prices.now;
       cash = d.cash;
       held = d.held.now;

@@ -8,6 +8,7 @@ ghost use Rattle.day.specs.Told.{ToldOutcome, SafeOn};
 
 use crate::lent::Day;
 use calls::answer::Answer;
+use deck::given::Given;
 use load::lists::Lists;
 use load::loading::Loaded;
 use std::alloc::Global;
@@ -22,14 +23,16 @@ fn day_in<'a>(used: &Loaded, lists: &'a Lists) -> Day<'a>
     Day {
         half: used.half,
         cash: used.cash,
-        families: &lists.families[0..used.families],
-        baskets: &lists.baskets[0..used.baskets],
-        months: &lists.months[0..used.months],
-        lines: &lists.lines[0..used.futures + used.options],
-        futures: used.futures,
-        prices: &lists.prices[0..used.prices],
-        held: &lists.held[0..used.held],
-        orders: &lists.orders[0..used.orders],
+        given: Given {
+            families: &lists.families[..used.families],
+            baskets: &lists.baskets[..used.baskets],
+            months: &lists.months[..used.months],
+            lines: &lists.lines[..used.futures + used.options],
+            futures: used.futures,
+        },
+        prices: &lists.prices[..used.prices],
+        held: &lists.held[..used.held],
+        orders: &lists.orders[..used.orders],
     }
 }
 

@@ -1,8 +1,9 @@
 // The day of a session file, whose records stand in lists.
 ghost use Rattle.std.specs.Prelude.{◌≤◌, length};
 
+use deck::given::Given;
 use kinds::Order;
-use terms::cards::{Basket, Family, Held, Line, Month};
+use terms::cards::Held;
 use terms::half::Half;
 
 #[derive(Clone, Copy)]
@@ -10,15 +11,10 @@ pub struct Day<'a> {
     pub half: Half,
     // the collateral, in kopecks
     pub cash: i64,
-    pub families: &'a [Family],
-    pub baskets: &'a [Basket],
-    pub months: &'a [Month],
-    pub lines: &'a [Line],
-    // how many of the lines, from the first, are futures
-    pub futures: usize,
-    // those of the options, row after row
+    pub given: Given<'a>,
+    // those of the options, row after row; flat, since how long a row is depends on the grid
     pub prices: &'a [i64],
     pub held: &'a [Held],
     pub orders: &'a [Order],
-    ghost inside: { futures ≤ length lines.now },
+    ghost inside: { given.futures ≤ length given.lines.now },
 }

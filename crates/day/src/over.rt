@@ -18,7 +18,6 @@ use banks::strip::Strip;
 use banks::table::Table;
 use calls::answer::Answer;
 use calls::running::run;
-use deck::given::Given;
 use std::alloc::Global;
 use terms::cards::Line;
 use terms::fault::Fault;
@@ -50,14 +49,7 @@ impl<'a> Day<'a> {
         ensures safe { SafeOver (day_of self.entry) (B.Bank.meaning bank) result }
     {
         let calls = calls_of(heap, self.orders)?;
-        let given = Given {
-            families: self.families,
-            baskets: self.baskets,
-            months: self.months,
-            lines: self.lines,
-            futures: self.futures,
-        };
-        run(heap, bank, &given, self.held, self.cash, &calls)
+        run(heap, bank, &self.given, self.held, self.cash, &calls)
     }
 
     // Over the strip beside the table.
@@ -69,7 +61,8 @@ impl<'a> Day<'a> {
         ensures told { ToldOutcome result (next (beside_table (day_of self.entry) (strip_meaning strip)) (bank_told (day_of self.entry))) }
         ensures safe { SafeOn (day_of self.entry) (beside_table (day_of self.entry) (strip_meaning strip)) result }
     {
-        let pair = with_table(strip, self.half, &self.lines[self.futures..], self.prices)?;
+        let options = &self.given.lines[self.given.futures..];
+        let pair = with_table(strip, self.half, options, self.prices)?;
         self.told_over(heap, pair)
     }
 
@@ -82,7 +75,7 @@ impl<'a> Day<'a> {
         ensures told { ToldOutcome result (next (strip_alone (day_of self.entry) (strip_meaning strip)) (bank_told (day_of self.entry))) }
         ensures safe { SafeOn (day_of self.entry) (strip_alone (day_of self.entry) (strip_meaning strip)) result }
     {
-        if self.lines[self.futures..].is_empty() {
+        if self.given.lines[self.given.futures..].is_empty() {
             self.told_over(heap, strip)
         } else {
             self.told_beside_table(heap, strip)
@@ -94,7 +87,10 @@ impl<'a> Day<'a> {
         ensures told { ToldOutcome result (day_told (day_of self.entry)) }
         ensures safe { SafeOn (day_of self.entry) (bank_made (day_of self.entry)) result }
     {
-        let strip = Strip::new(i64::from(self.half), &self.lines[..self.futures])?;
+        let strip = Strip::new(
+            i64::from(self.half),
+            &self.given.lines[..self.given.futures],
+        )?;
         self.told_over_strip(heap, strip)
     }
 }

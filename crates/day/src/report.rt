@@ -13,15 +13,13 @@ pub struct Refused {
 
 impl fmt::Display for Refused {
     fn fmt<W: fmt::Write>(&self, f: &mut fmt::Formatter<W>) -> fmt::Result {
-        let number = self.why.number();
-        let place = self.why.place();
-        writeln!(f, "(refused (number {number}) (place {place}))")
+        writeln!(f, "{}", self.why)
     }
 }
 
 impl fmt::Display for Session {
     fn fmt<W: fmt::Write>(&self, f: &mut fmt::Formatter<W>) -> fmt::Result {
-        for told in self.told.as_slice() {
+        for told in &self.told {
             match told {
                 Ok(Answer::Numbered(number)) => writeln!(f, "(order {number})")?,
                 Ok(Answer::Required(required)) => requirement(f, required, self.collateral)?,
@@ -56,6 +54,7 @@ fn family<W: fmt::Write>(
 ) -> fmt::Result {
     let loss = lost.loss;
     let point = lost.point;
+    // A family that loses nothing has no worst point to tell.
     if loss == 0 {
         writeln!(f, "(family {number} (loss 0) (out))")
     } else {

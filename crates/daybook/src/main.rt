@@ -15,7 +15,8 @@ fn main(rt: HostRuntime) -> anyhow::Result<()> {
 fn run(rt: &HostRuntime) -> anyhow::Result<()> {
     let mut text = Vec::new(rt.alloc());
     rt.stdin().read_to_end(&mut text)?;
-    match answer(rt.alloc(), text.as_slice()) {
+    // The same cases as in compare; one function for both would have to take the writer.
+    match answer(rt.alloc(), &text) {
         Ok(session) => rt.print(session)?,
         Err(Fault::Refused(why)) => rt.print(Refused { why })?,
         Err(Fault::Memory) => return Err(AllocError.into()),

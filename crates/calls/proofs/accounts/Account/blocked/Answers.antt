@@ -11,7 +11,7 @@ use Rattle.calls.proofs.Sizes.{left_at, limit_at}
 use Rattle.calls.proofs.accounts.Account.blocked.Goals as goal
 
 pub rests-rests-requires : goal.rests-rests-requires
-rests-rests-requires g c = rw c.as_slice.ensures.value (bounded g.B.Bank.meaning c.args.self.now).few_orders
+rests-rests-requires g c = rw c.deref.ensures.value (bounded g.B.Bank.meaning c.args.self.now).few_orders
 
 pub slice_bounds-rests-end : goal.slice_bounds-rests-end
 slice_bounds-rests-end g c =
@@ -28,7 +28,7 @@ book_with-book-requires g c =
     let a = c.args.self.now in
     let s = state_of g.B.Bank.meaning a in
     let b = bounded g.B.Bank.meaning a in
-    let rests = front_is rest_of (vec_items a.orders) _ c.rests-rests.result c.len.result c.as_slice.ensures.value (omega (arith, c.len.ensures, a.orders.ok.0)) c.rests-rests.ensures.value in
+    let rests = front_is rest_of (vec_items a.orders) _ c.rests-rests.result c.len.result c.deref.ensures.value (omega (arith, c.len.ensures, a.orders.ok.0)) c.rests-rests.ensures.value in
     record {
       few = rw rests (rw (length-map s.orders rest_of) b.few_orders);
       lefts = λ i. rw rests (left_at s b i);
@@ -39,7 +39,7 @@ pub returns : goal.returns
 returns g c =
     let a = c.args.self.now in
     let s = state_of g.B.Bank.meaning a in
-    let rests = front_is rest_of (vec_items a.orders) _ c.rests-rests.result c.len.result c.as_slice.ensures.value (omega (arith, c.len.ensures, a.orders.ok.0)) c.rests-rests.ensures.value in
+    let rests = front_is rest_of (vec_items a.orders) _ c.rests-rests.result c.len.result c.deref.ensures.value (omega (arith, c.len.ensures, a.orders.ok.0)) c.rests-rests.ensures.value in
     let book = c.book_with-book.ensures ∙ ap (λ (os : List Open). record { positions = s.positions; orders = os }) rests in
     let parts = subst (λ (b : Book). BlockedFor s.bank s.cards b c.margin.result) book (record { amount_is = c.margin.ensures.amount; losses_are = c.margin.ensures.losses; worsts_are = c.margin.ensures.worsts; costliest_is = c.margin.ensures.costliest; world_is = c.margin.ensures.world }) in
     record { amount = parts.amount_is; parts = parts }

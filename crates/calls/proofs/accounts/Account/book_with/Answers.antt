@@ -7,4 +7,4 @@ pub invariant_of-result : goal.invariant_of-result
 invariant_of-result g c =
     let s = state_of g.B.Bank.meaning c.args.self.now in
     let b = bounded g.B.Bank.meaning c.args.self.now in
-    record { few_orders = c.requires.few; nets = λ l. rw c.as_slice.ensures.value (net_at s b l); costs = λ l. rw c.as_slice.ensures.value (cost_at s b l); lefts = c.requires.lefts; limits = c.requires.limits }
+    record { few_orders = c.requires.few; nets = λ l. rw c.deref.ensures.value (net_at s b l); costs = λ l. rw c.deref.ensures.value (cost_at s b l); lefts = c.requires.lefts; limits = c.requires.limits }

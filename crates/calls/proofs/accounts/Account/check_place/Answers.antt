@@ -22,7 +22,7 @@ check_with_book-requires g c =
     let has : name_fits (length s.cards.lines) c.args.line ≡ true = sym (simp to_z-of_z at c.has_line.ensures) ∙ c.if-not-has_line.false in
     let order = asked_is (length s.cards.lines) c.args.line c.args.quantity c.args.limit c.asked.result has (simp to_z-of_z at c.asked.ensures) in
     let contracts : quantity_fits (pos (nat_abs c.args.quantity)) ≡ true = sym (c.quantity_fits.ensures ∙ ap (λ n. quantity_fits (pos n)) (simp to_z-of_z at c.unsigned_abs.ensures.value)) ∙ c.if-not-quantity_fits.false in
-    let price : price_fits c.args.limit ≡ true = sym (simp to_z-of_z at c.between.ensures) ∙ c.if-not-between.false in
+    let price : price_fits c.args.limit ≡ true = sym (simp to_z-of_z at c.price_fits.ensures) ∙ c.if-not-price_fits.false in
     record {
       line = rw order (rw b.a_position_a_line (one_of (length s.cards.lines) c.args.line has));
       left = rw order (contracts_fit (nat_abs c.args.quantity) contracts).1;
@@ -40,7 +40,7 @@ returns g c =
     let has : name_fits (length s.cards.lines) c.args.line ≡ true = sym (simp to_z-of_z at c.has_line.ensures) ∙ c.if-not-has_line.false in
     let order = asked_is (length s.cards.lines) c.args.line c.args.quantity c.args.limit c.asked.result has (simp to_z-of_z at c.asked.ensures) in
     let contracts : quantity_fits (pos (nat_abs c.args.quantity)) ≡ true = sym (c.quantity_fits.ensures ∙ ap (λ n. quantity_fits (pos n)) (simp to_z-of_z at c.unsigned_abs.ensures.value)) ∙ c.if-not-quantity_fits.false in
-    let price : price_fits c.args.limit ≡ true = sym (simp to_z-of_z at c.between.ensures) ∙ c.if-not-between.false in
+    let price : price_fits c.args.limit ≡ true = sym (simp to_z-of_z at c.price_fits.ensures) ∙ c.if-not-price_fits.false in
     c.check_with_book.ensures
     ∙ ap (λ (o : Open). judged (unless (ltb (length s.orders) 32) OrdersFull ∷ trial_checks s (book_with s o) o.line (nat_abs o.left))) order
     ∙ ap (λ rest. judged (unless (ltb (length s.orders) 32) OrdersFull ∷ rest)) (trial_is s c.args.line c.args.quantity c.args.limit (rw b.a_count_a_line (one_of (length s.cards.lines) c.args.line has)))
