@@ -3,11 +3,9 @@
 ghost use Rattle.std.specs.Prelude.{◌≡◌, ◌≤◌, min, unsigned_abs};
 ghost use Rattle.banks.specs.Meanings.{most_reach, on_grid, capped as capped_at};
 
+pub use terms::amounts::MOST_LINES;
 pub use terms::half::COLUMNS;
 use terms::half::Half;
-
-// The most lines that a bank may have.
-pub const MOST_LINES: usize = 16;
 
 // The largest reach that a bank may have, in grains.
 pub const MOST_REACH: u64 = 2_000_000_000_000;

@@ -4,6 +4,8 @@ ghost use Rattle.deck.specs.Judgements.{first_unfit, counted, cards_judged};
 ghost use Rattle.deck.specs.Decks.{given_cards, refusal_of};
 
 use crate::judges::{unfit_basket, unfit_family, unfit_line, unfit_month, unfit_record};
+use margin::choice::{MOST_BASKETS, MOST_FAMILIES, MOST_MONTHS};
+use terms::amounts::MOST_LINES;
 use terms::cards::{Basket, Family, Held, Line, Month};
 use terms::refusal::Refusal;
 
@@ -67,10 +69,10 @@ impl<'a> Given<'a> {
         ensures { result ≡ counted bank_lines (given_cards self.now) }
     {
         let lines = self.lines.len();
-        (1..=2).contains(&self.families.len())
-            && (1..=4).contains(&self.baskets.len())
-            && (1..=8).contains(&self.months.len())
-            && (1..=16).contains(&lines)
+        (1..=MOST_FAMILIES).contains(&self.families.len())
+            && (1..=MOST_BASKETS).contains(&self.baskets.len())
+            && (1..=MOST_MONTHS).contains(&self.months.len())
+            && (1..=MOST_LINES).contains(&lines)
             && lines == bank_lines
             && (1..=lines).contains(&self.futures)
     }

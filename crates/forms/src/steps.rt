@@ -107,6 +107,7 @@ impl Reader<'_> {
         ensures { Moves (λ text at. numbers_in (K.Kind.filled inner) field.now.allowed text field.now.count 0 so_far at) self.old self.new result }
     {
         let mut filled = so_far;
+        // as many as are asked for: there is no list of them to go over
         for index in 0..field.count {
             let value = self.spaced_number(field.allowed)?;
             filled = K::fill(filled, inner, index, value);

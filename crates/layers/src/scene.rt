@@ -1,10 +1,11 @@
 // What the layers are worked out from: the cards, and the months' cells in a table.
 use terms::cards::{Basket, Family, Line, Month};
+use terms::half::VOLATILITIES;
 
 // The first of a month's two rate columns, and of its two twist columns.
-pub(crate) const RATE: usize = 3;
+pub(crate) const RATE: usize = VOLATILITIES;
 
-pub(crate) const TWIST: usize = 5;
+pub(crate) const TWIST: usize = RATE + 2;
 
 // Its own fields, since callers name them. Futures and options are one list, since lines are numbered through both.
 #[derive(Clone, Copy, Drop)]

@@ -3,17 +3,19 @@ ghost use Rattle.std.specs.Prelude.{◌≡◌};
 ghost use Rattle.load.specs.Days.{contents_of, lengths_of, zeros};
 
 use kinds::Order;
+use margin::choice::{MOST_BASKETS, MOST_FAMILIES, MOST_MONTHS};
+use terms::amounts::MOST_LINES;
 use terms::cards::{Basket, Family, Held, Line, Month};
 use terms::half::{COLUMNS, MOST_POINTS};
 
 // The length that is wanted of each list.
-pub const FAMILIES: usize = 2;
+pub const FAMILIES: usize = MOST_FAMILIES;
 
-pub const BASKETS: usize = 4;
+pub const BASKETS: usize = MOST_BASKETS;
 
-pub const MONTHS: usize = 8;
+pub const MONTHS: usize = MOST_MONTHS;
 
-pub const LINES: usize = 16;
+pub const LINES: usize = MOST_LINES;
 
 // A row for each column of each option, since one line at least is a future, and a price for each point.
 pub const PRICES: usize = (LINES - 1) * COLUMNS * MOST_POINTS;

@@ -3,6 +3,9 @@
 // How many grains a kopeck has. A grain is what the engine counts in, so that nothing is rounded before the margin.
 pub const GRAINS: u64 = 80_000;
 
+// The most lines of a bank, and of an account.
+pub const MOST_LINES: usize = 16;
+
 // The largest price, in kopecks.
 pub const MOST_PRICE: i64 = 10_000_000;
 
