@@ -36,9 +36,8 @@ impl Reader<'_> {
     fn plain_number(&mut self) -> Result<i64, Refusal>
         ensures { Moves number_in self.old self.new result }
     {
-        let (value, taken) = number(&self.text[self.at..]).map_err(|_| Refusal::Malformed(
-            self.at,
-        ))?;
+        let place = self.at;
+        let (value, taken) = number(&self.text[place..]).map_err(|_| Refusal::Malformed(place))?;
         self.at += taken;
         Ok(value)
     }

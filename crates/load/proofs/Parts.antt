@@ -46,5 +46,5 @@ module _ (t : Told Day) (before after : Contents) where
   pub day_ok : (day : Day) (q : ℕ) (r : Loaded) → Ok (day, q) ≡ t → r ≡ loaded_of day → after ≡ with_day day before → Kept (next t (λ read. Ok read.0)) (Ok r) before after
   day_ok day q r e f h = subst (λ u. Kept (next u (λ read. Ok read.0)) (Ok r) before after) e (ap Ok f, h)
 
-  pub day_err : (e : Refusal) → Err e ≡ t → Kept (next t (λ read. Ok read.0)) (Err e) before after
-  day_err e f = subst (λ u. Kept (next u (λ read. Ok read.0)) (Err e) before after) f refl
+  pub day_err : (r : Result Loaded Refusal) (e : Refusal) → IsErrAnd r (λ f. f ≡ e) → Err e ≡ t → Kept (next t (λ read. Ok read.0)) r before after
+  day_err r e h f = let p = err_from_is_err_and r h in rw (p.1, p.2) (subst (λ u. Kept (next u (λ read. Ok read.0)) (Err e) before after) f refl)

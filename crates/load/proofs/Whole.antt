@@ -1,5 +1,7 @@
 -- A file as a whole: what passed the checks, what is in use of the lists, and what is left of them where it was refused.
 use Rattle.std.proofs.Common.{◌≡◌, ℕ, ◌+◌, ◌≤◌, true, false, eqb, List, [], ◌∷◌, ◌++◌, length, take, drop, replicate, pos, is_err, IfOk, Some, None, Ok, Err, Option, Result, sym, refl, ap, ◌∙◌, subst, arith, length-append}
+use Rattle.std.specs.Result.{IsErrAnd}
+use Rattle.std.proofs.lemmas.Result.{err_from_is_err_and}
 use Rattle.std.proofs.lemmas.List.{take_at, length-replicate}
 use Rattle.std.proofs.lemmas.Bool.{eqb-true, true≢false, false≢true}
 use Rattle.terms.specs.Checks.{refused_at, decided}
@@ -91,8 +93,8 @@ module _ (lists after : Contents) where
   pub keeps : (t : Result Day Refusal) (d : Day) (r : Loaded) → Ok d ≡ t → r ≡ loaded_of d → after ≡ with_day d lists → Kept t (Ok r) lists after
   keeps t d r e f h = subst (λ u. Kept u (Ok r) lists after) e (ap Ok f, h)
 
-  pub keeps_no : (t : Result Day Refusal) (e : Refusal) → Err e ≡ t → Kept t (Err e) lists after
-  keeps_no t e f = subst (λ u. Kept u (Err e) lists after) f refl
+  pub keeps_no : (t : Result Day Refusal) (r : Result Loaded Refusal) (e : Refusal) → IsErrAnd r (λ f. f ≡ e) → Err e ≡ t → Kept t r lists after
+  keeps_no t r e h f = let p = err_from_is_err_and r h in rw (p.1, p.2) (subst (λ u. Kept u (Err e) lists after) f refl)
 
 long_over : {R : Type 0} (xs before : List R) → length xs ≤ length (over xs before)
 long_over xs before = omega (arith, length-append xs (drop (length xs) before))

@@ -62,30 +62,20 @@ fn end(state: State, place: usize) -> Option<usize>
 fn next(state: State, c: char) -> Option<State>
     ensures { result ≡ step state c }
 {
+    let more_forms = more(c, State::OuterSpace, State::OuterClosed);
+    let more_numbers = more(c, State::InnerSpace, State::InnerClosed);
     match state {
         State::Line => open(c, State::OuterOpen),
         State::OuterOpen => letter(c, State::OuterHead),
-        State::OuterHead => letter(c, State::OuterHead).or(more(
-            c,
-            State::OuterSpace,
-            State::OuterClosed,
-        )),
+        State::OuterHead => letter(c, State::OuterHead).or(more_forms),
         State::OuterSpace => open(c, State::InnerOpen),
         State::InnerOpen => letter(c, State::InnerHead),
-        State::InnerHead => letter(c, State::InnerHead).or(more(
-            c,
-            State::InnerSpace,
-            State::InnerClosed,
-        )),
+        State::InnerHead => letter(c, State::InnerHead).or(more_numbers),
         State::InnerSpace => first_of_number(c),
         State::Minus => first_digit(c),
-        State::Zero => more(c, State::InnerSpace, State::InnerClosed),
-        State::Digits(count) => next_digit(count, c).or(more(
-            c,
-            State::InnerSpace,
-            State::InnerClosed,
-        )),
-        State::InnerClosed => more(c, State::OuterSpace, State::OuterClosed),
+        State::Zero => more_numbers,
+        State::Digits(count) => next_digit(count, c).or(more_numbers),
+        State::InnerClosed => more_forms,
         State::OuterClosed => end_of_line(c),
     }
 }

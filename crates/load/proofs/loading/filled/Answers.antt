@@ -1,5 +1,4 @@
 use Rattle.std.proofs.Common.{sym, refl, ap, ◌∙◌, subst, arith}
-use Rattle.std.proofs.lemmas.Result.{err_from_is_err_and}
 use Rattle.terms.specs.Checks.{decided}
 use Rattle.load.specs.declared.lists.Lengths.{Lengths}
 use Rattle.load.specs.declared.loading.Loaded.{Loaded}
@@ -26,39 +25,35 @@ returns-in_err-lists_fit c =
     let before = contents_of c.args.lists.now in
     let given = lengths_of before in
     let text = c.args.text.now in
-    let p = err_from_is_err_and c.from_residual.result c.from_residual.ensures.1 in
     let lists = c.in_err-lists_fit.ensures ∙ ap (λ l. decided {X = Unit {0}} (list_checks l) tt) c.lengths.ensures in
-    rw (p.1, p.2) (record { kept = keeps_no before before _ _ (refused_lists given text _ lists); long = refl })
+    record { kept = keeps_no before before _ _ _ c.from_residual.ensures.1 (refused_lists given text _ lists); long = refl }
 
 pub returns-in_err-text_fits : goal.returns-in_err-text_fits
 returns-in_err-text_fits c =
     let before = contents_of c.args.lists.now in
     let given = lengths_of before in
     let text = c.args.text.now in
-    let p = err_from_is_err_and c.from_residual-in_err-text_fits.result c.from_residual-in_err-text_fits.ensures.1 in
     let lists = c.in_ok-lists_fit.ensures ∙ ap (λ l. decided {X = Unit {0}} (list_checks l) tt) c.lengths.ensures in
-    rw (p.1, p.2) (record { kept = keeps_no before before _ _ (refused_text given text lists _ c.in_err-text_fits.ensures); long = refl })
+    record { kept = keeps_no before before _ _ _ c.from_residual-in_err-text_fits.ensures.1 (refused_text given text lists _ c.in_err-text_fits.ensures); long = refl }
 
 pub returns-in_err-loaded : goal.returns-in_err-loaded
 returns-in_err-loaded c =
     let before = contents_of c.args.lists.now in
     let given = lengths_of before in
     let text = c.args.text.now in
-    let p = err_from_is_err_and c.from_residual-in_err-loaded.result c.from_residual-in_err-loaded.ensures.1 in
     let lists = c.in_ok-lists_fit.ensures ∙ ap (λ l. decided {X = Unit {0}} (list_checks l) tt) c.lengths.ensures in
-    rw (p.1, p.2) (record { kept = keeps_no before (contents_of c.day.new.lists) _ _ (refused_day given text lists c.in_ok-text_fits.ensures _ (kept_no _ _ _ _ c.in_err-loaded.ensures.kept)); long = c.in_err-loaded.ensures.long })
+    record { kept = keeps_no before (contents_of c.day.new.lists) _ _ _ c.from_residual-in_err-loaded.ensures.1 (refused_day given text lists c.in_ok-text_fits.ensures _ (kept_no _ _ _ _ c.in_err-loaded.ensures.kept)); long = c.in_err-loaded.ensures.long }
 
 pub returns-in_err-cards_fit : goal.returns-in_err-cards_fit
 returns-in_err-cards_fit c =
     let before = contents_of c.args.lists.now in
     let given = lengths_of before in
     let text = c.args.text.now in
-    let p = err_from_is_err_and c.from_residual-in_err-cards_fit.result c.from_residual-in_err-cards_fit.ensures.1 in
     let lists = c.in_ok-lists_fit.ensures ∙ ap (λ l. decided {X = Unit {0}} (list_checks l) tt) c.lengths.ensures in
     let day = kept_yes _ _ _ _ c.in_ok-loaded.ensures.kept in
     let checks = (λ i. used_checks (day.2 i) (day.3 i)) ∙ checks_used day.0 before in
     let unfit = c.in_err-cards_fit.ensures ∙ ap (λ l. decided {X = Unit {0}} l tt) checks in
-    rw (p.1, p.2) (record { kept = keeps_no before (contents_of c.day.new.lists) _ _ (decided_no (card_checks day.0) day.0 _ unfit ∙ judged_day given text lists c.in_ok-text_fits.ensures day.0 day.1); long = c.in_ok-loaded.ensures.long })
+    record { kept = keeps_no before (contents_of c.day.new.lists) _ _ _ c.from_residual-in_err-cards_fit.ensures.1 (decided_no (card_checks day.0) day.0 _ unfit ∙ judged_day given text lists c.in_ok-text_fits.ensures day.0 day.1); long = c.in_ok-loaded.ensures.long }
 
 pub returns : goal.returns
 returns c =

@@ -1,6 +1,5 @@
 use Rattle.std.proofs.Common.{refl, ap, ◌∙◌, w64, SFits, rules}
 use Rattle.std.proofs.lemmas.Int.{to_z-of_z}
-use Rattle.std.proofs.lemmas.Result.{err_from_is_err_and}
 use Rattle.forms.proofs.Told.{then_ok, then_err}
 use Rattle.kinds.specs.Formats.{grid_format, cash_format}
 use Rattle.load.specs.Days.{contents_of, lengths_of}
@@ -11,16 +10,14 @@ use Rattle.load.proofs.reading.day.Goals as goal
 pub returns-in_err-half : goal.returns-in_err-half
 unfolding day_in lines_in contracts_in book_in
 returns-in_err-half c =
-    let p = err_from_is_err_and c.from_residual.result c.from_residual.ensures.1 in
     let started = c.read_from-reader.ensures in
     let first = c.in_err-half.ensures in
     let half = first.answer ∙ (λ i. form_at grid_format (started.0 i) (started.1 i)) in
-    rw (p.1, p.2) (record { kept = day_err _ _ _ _ (then_err _ _ _ half); long = refl })
+    record { kept = day_err _ _ _ _ _ c.from_residual.ensures.1 (then_err _ _ _ half); long = refl }
 
 pub returns-in_err-families : goal.returns-in_err-families
 unfolding day_in lines_in contracts_in book_in
 returns-in_err-families c =
-    let p = err_from_is_err_and c.from_residual-in_err-families.result c.from_residual-in_err-families.ensures.1 in
     let started = c.read_from-reader.ensures in
     let first = c.in_ok-half.ensures in
     let half = first.answer ∙ (λ i. form_at grid_format (started.0 i) (started.1 i)) in
@@ -28,12 +25,11 @@ returns-in_err-families c =
     let second = c.in_err-families.ensures in
     let cards = read_no _ _ _ _ _ _ _ second.answer in
     let read-cards = cards ∙ ap (λ t. cards_in (lengths_of (contents_of c.args.lists.now)) t c.form.new.self.at) same-1 in
-    rw (p.1, p.2) (record { kept = day_err _ _ _ _ (then_ok _ _ _ _ _ half (then_err _ _ _ read-cards)); long = second.long })
+    record { kept = day_err _ _ _ _ _ c.from_residual-in_err-families.ensures.1 (then_ok _ _ _ _ _ half (then_err _ _ _ read-cards)); long = second.long }
 
 pub returns-in_err-futures : goal.returns-in_err-futures
 unfolding day_in lines_in contracts_in book_in
 returns-in_err-futures c =
-    let p = err_from_is_err_and c.from_residual-in_err-futures.result c.from_residual-in_err-futures.ensures.1 in
     let started = c.read_from-reader.ensures in
     let first = c.in_ok-half.ensures in
     let half = first.answer ∙ (λ i. form_at grid_format (started.0 i) (started.1 i)) in
@@ -45,12 +41,11 @@ returns-in_err-futures c =
     let third = c.in_err-futures.ensures in
     let contracts = read_no _ _ _ _ _ _ _ third.answer in
     let read-contracts = contracts ∙ (λ i. contracts_in c.in_ok-half.half (lengths_of (cards.3 i)) (same-2 i) c.cards.new.reader.at) in
-    rw (p.1, p.2) (record { kept = day_err _ _ _ _ (then_ok _ _ _ _ _ half (then_ok _ _ _ _ _ read-cards (then_err _ _ _ read-contracts))); long = third.long ∙ second.long })
+    record { kept = day_err _ _ _ _ _ c.from_residual-in_err-futures.ensures.1 (then_ok _ _ _ _ _ half (then_ok _ _ _ _ _ read-cards (then_err _ _ _ read-contracts))); long = third.long ∙ second.long }
 
 pub returns-in_err-cash : goal.returns-in_err-cash
 unfolding day_in lines_in contracts_in book_in
 returns-in_err-cash c =
-    let p = err_from_is_err_and c.from_residual-in_err-cash.result c.from_residual-in_err-cash.ensures.1 in
     let started = c.read_from-reader.ensures in
     let first = c.in_ok-half.ensures in
     let half = first.answer ∙ (λ i. form_at grid_format (started.0 i) (started.1 i)) in
@@ -65,12 +60,11 @@ returns-in_err-cash c =
     let same-3 = third.same ∙ same-2 in
     let fourth = c.in_err-cash.ensures in
     let cash = fourth.answer ∙ ap (λ t. form_at cash_format t c.contracts.new.reader.at) same-3 in
-    rw (p.1, p.2) (record { kept = day_err _ _ _ _ (then_ok _ _ _ _ _ half (then_ok _ _ _ _ _ read-cards (then_ok _ _ _ _ _ read-contracts (then_err _ _ _ cash)))); long = third.long ∙ second.long })
+    record { kept = day_err _ _ _ _ _ c.from_residual-in_err-cash.ensures.1 (then_ok _ _ _ _ _ half (then_ok _ _ _ _ _ read-cards (then_ok _ _ _ _ _ read-contracts (then_err _ _ _ cash)))); long = third.long ∙ second.long }
 
 pub returns-in_err-held : goal.returns-in_err-held
 unfolding day_in lines_in contracts_in book_in
 returns-in_err-held c =
-    let p = err_from_is_err_and c.from_residual-in_err-held.result c.from_residual-in_err-held.ensures.1 in
     let started = c.read_from-reader.ensures in
     let first = c.in_ok-half.ensures in
     let half = first.answer ∙ (λ i. form_at grid_format (started.0 i) (started.1 i)) in
@@ -90,7 +84,7 @@ returns-in_err-held c =
     let fifth = c.in_err-held.ensures in
     let book = read_no _ _ _ _ _ _ _ fifth.answer in
     let read-book = book ∙ (λ i. book_in (lengths_of (contents i)) (same-4 i) c.form-2.new.self.at) in
-    rw (p.1, p.2) (record { kept = day_err _ _ _ _ (then_ok _ _ _ _ _ half (then_ok _ _ _ _ _ read-cards (then_ok _ _ _ _ _ read-contracts (then_ok _ _ _ _ _ cash (then_err _ _ _ read-book))))); long = fifth.long ∙ third.long ∙ second.long })
+    record { kept = day_err _ _ _ _ _ c.from_residual-in_err-held.ensures.1 (then_ok _ _ _ _ _ half (then_ok _ _ _ _ _ read-cards (then_ok _ _ _ _ _ read-contracts (then_ok _ _ _ _ _ cash (then_err _ _ _ read-book))))); long = fifth.long ∙ third.long ∙ second.long }
 
 pub returns : goal.returns
 unfolding day_in lines_in contracts_in book_in
