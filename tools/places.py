@@ -113,7 +113,7 @@ POINTS = {
     "4d a wrapper of a method": lambda s: lines_with(s, r"fn (size|half_number|line_count|is_gone|few|is_number|size_or_0)\("),
     "5a facts in three contracts or more": repeated,
     "5b five parameters or more": lambda s: many(s),
-    "6 arrays of a fixed size": lambda s: lines_with(s, r"(: |-> |= )&?(mut )?\[[^\[\];]+; \d+\]"),
+    "6 arrays of a fixed size": lambda s: lines_with(s, r"(: |-> |= )&?(mut )?\[[^\[\];]+; \w+\]"),
     "7a predicates as structs": lambda s: lines_with(s, r"^impl.* Judge<.*> for"),
     "7b a switch on a step": lambda s: lines_with(s, r"\b(part|what|step): (Part|Step)\b"),
 }

@@ -70,11 +70,15 @@ impl Strip {
         ensures law { MadeExactlyWhen result (MayStrip half futures.now) }
     {
         let half = judged(half, futures)?;
+        let fitting = Futures {
+            half,
+            cards: futures,
+        };
         Ok(Strip {
             half,
             count: futures.len(),
-            reach: widest(half, futures),
-            quotes: quotes(half, futures),
+            reach: fitting.reach(),
+            quotes: fitting.quotes(),
         })
     }
 }
@@ -93,16 +97,44 @@ fn judged(half: i64, futures: &[Line]) -> Result<Half, Refusal>
     Ok(grid)
 }
 
-// The greatest size that a price or a change of these futures can have.
-fn widest(half: Half, futures: &[Line]) -> u64
-    requires { All (λ card. future_fits card ≡ true) futures.now }
-    ensures { result ≡ strip_reach half futures.now }
-{
-    futures
-        .iter()
-        .map(|card| reach_of(half, card))
-        .max()
-        .unwrap_or(0)
+// The cards of a strip's futures on the grid of a half. Each of them fits, and there are no more than a bank may have lines.
+#[derive(Clone, Copy)]
+struct Futures<'a> {
+    half: Half,
+    cards: &'a [Line],
+    ghost fitting: { All (λ card. future_fits card ≡ true) cards.now },
+    ghost few: { length cards.now ≤ 16 },
+}
+
+impl Futures<'_> {
+    // The greatest size that a price or a change of these futures can have.
+    fn reach(&self) -> u64
+        ensures { result ≡ strip_reach self.now.half self.now.cards.now }
+    {
+        self.cards
+            .iter()
+            .map(|card| reach_of(self.half, card))
+            .max()
+            .unwrap_or(0)
+    }
+
+    // What a strip keeps of them, with room for as many as a bank may have.
+    fn quotes(&self) -> [Quote; MOST_LINES]
+        ensures long { length result ≡ 16 }
+        ensures each { (k : ℕ) → k < length self.now.cards.now → slice_index_or result k no_quote ≡ quote_of self.now.half (slice_index_or self.now.cards.now k no_line) }
+    {
+        array::from_fn(|k| self.quote(k))
+    }
+
+    // What a strip keeps of the future at a place; past the last one any quote will do, since no price is read from it.
+    fn quote(&self, k: usize) -> Quote
+        ensures { k < length self.now.cards.now → result ≡ quote_of self.now.half (slice_index_or self.now.cards.now k no_line) }
+    {
+        match self.cards.get(k) {
+            Some(card) => Quote::of(self.half, card),
+            None => Quote::default(),
+        }
+    }
 }
 
 // The greatest size that a price or a change of a future can have.
@@ -113,27 +145,6 @@ fn reach_of(half: Half, card: &Line) -> u64
     let quote = Quote::of(half, card);
     let moved = half.size() as u64 * quote.step;
     (quote.base + moved).max(quote.change)
-}
-
-// What a strip keeps of its futures, with room for as many as a bank may have.
-fn quotes(half: Half, futures: &[Line]) -> [Quote; MOST_LINES]
-    requires fitting { All (λ card. future_fits card ≡ true) futures.now }
-    requires few { length futures.now ≤ 16 }
-    ensures long { length result ≡ 16 }
-    ensures each { (k : ℕ) → k < length futures.now → slice_index_or result k no_quote ≡ quote_of half (slice_index_or futures.now k no_line) }
-{
-    array::from_fn(|k| quote_at(half, futures, k))
-}
-
-// What a strip keeps of the future at a place; past the last one any quote will do, since no price is read from it.
-fn quote_at(half: Half, futures: &[Line], k: usize) -> Quote
-    requires { All (λ card. future_fits card ≡ true) futures.now }
-    ensures { k < length futures.now → result ≡ quote_of half (slice_index_or futures.now k no_line) }
-{
-    match futures.get(k) {
-        Some(card) => Quote::of(half, card),
-        None => Quote::default(),
-    }
 }
 
 impl Quote {

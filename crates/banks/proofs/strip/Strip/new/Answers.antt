@@ -32,12 +32,8 @@ returns-in_err-half c =
 fitting : (half : ℤ) (cards : List Line) (grid : Half) → strip_judged half cards ≡ Ok grid → All (λ card. future_fits card ≡ true) cards
 fitting half cards grid e = All-from_get_or (λ card. future_fits card ≡ true) cards no_line (strip_passed half cards grid e).fitting
 
-pub widest-requires : goal.widest-requires
-widest-requires c =
-    fitting c.args.half c.args.futures.now c.in_ok-half.half (judged-as c.args.half c.args.futures.now _ _ c.ranges.half c.judged.ensures c.in_ok-half.was)
-
-pub quotes-requires : goal.quotes-requires
-quotes-requires c =
+pub invariant_of-fitting : goal.invariant_of-fitting
+invariant_of-fitting c =
     let judged = judged-as c.args.half c.args.futures.now _ _ c.ranges.half c.judged.ensures c.in_ok-half.was in
     record {
       fitting = fitting c.args.half c.args.futures.now c.in_ok-half.half judged;
@@ -50,7 +46,7 @@ returns c =
     let cards = c.args.futures.now in
     let judged = judged-as half cards _ _ c.ranges.half c.judged.ensures c.in_ok-half.was in
     record {
-      made = ap (λ reach. Ok (strip_meaning (record { half = c.in_ok-half.half; count = length cards; reach = reach; quotes = c.quotes.result }))) c.widest.ensures
+      made = ap (λ reach. Ok (strip_meaning (record { half = c.in_ok-half.half; count = length cards; reach = reach; quotes = c.quotes.result }))) c.reach.ensures
           ∙ strip_made_lem half cards c.in_ok-half.half judged c.quotes.result c.quotes.ensures.each;
       law = law_made _ (Strips half cards) (strip_passed half cards) (strip_allowed half cards) c.in_ok-half.half judged;
     }
