@@ -12,7 +12,7 @@ mag_le_size (pos n) = le_refl n
 mag_le_size (negsuc n) = le-suc n
 
 module _ (w : Width) (a b : ℤ) (fa : SFits w a) (fb : SFits w b) (small : nat_abs a * nat_abs b < 2 ^ hbits w) where
-  product_fits : SFits w (to_z w (of_z w a) *ℤ to_z w (of_z w b))
+  pub product_fits : SFits w (to_z w (of_z w a) *ℤ to_z w (of_z w b))
   product_fits =
       rw (to_z-of_z w a fa, to_z-of_z w b fb) (record { sfits = lt_of_le_of_lt (mag_le_size (a *ℤ b)) (rw (size_product a b) small) })
 

@@ -44,6 +44,7 @@ impl Bank for Strip {
         self.half
     }
 
+    // of its own field, as a table's: a trait has no fields
     fn lines(&self) -> usize {
         self.count.clamp(1, MOST_LINES)
     }

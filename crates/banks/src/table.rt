@@ -34,6 +34,7 @@ impl<'a> Bank for Table<'a> {
         self.half
     }
 
+    // of its own field, as a strip's: a trait has no fields
     fn lines(&self) -> usize {
         self.count.clamp(1, MOST_LINES)
     }

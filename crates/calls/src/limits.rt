@@ -10,7 +10,7 @@ use terms::refusal::Refusal;
 // The most contracts that are accepted on a line.
 pub(crate) const MOST_ACCEPTED: u64 = 20_000;
 
-// Whether an order may have such a limit, and be filled at such a price.
+// Whether an order may have such a limit, and be filled at such a price. With the other ranges it shares the shape alone.
 pub(crate) fn price_fits(price: i64) -> bool
     ensures { result ≡ price_fits price }
 {

@@ -93,7 +93,7 @@ fn covered<B: Bank + Drop>(account: Account<B>) -> Result<Account<B>, Fault>
     }
 }
 
-// An account over judged cards.
+// An account over judged cards. What it is made of comes apart, as begin takes it.
 fn begin_with<B: Bank + Drop>(
     heap: Global,
     bank: B,

@@ -51,7 +51,8 @@ fn told_by<B: Bank + Drop>(
 
 // Begins an account and has it take the calls in their order: what each of them was told. Wherever margin stands among them, the
 // amount answered is the least that covers every world of the account there, the world answered is one of them and none loses
-// more, the collateral suffices, and no fills and cancels ever raise the amount.
+// more, the collateral suffices, and no fills and cancels ever raise the amount. What the account is made of comes
+// apart, as begin takes it.
 pub fn run<B: Bank + Drop>(
     heap: Global,
     bank: B,

@@ -1,4 +1,4 @@
-// What refuses an account at its begin, with the number and the place.
+// What refuses an account at its begin, with the number and the place. Values are written out, so that what is expected does not come from the code.
 use crate::markets::{FUTURE, held};
 use crate::tables::{Told, refused};
 use banks::strip::Strip;
@@ -13,7 +13,7 @@ use terms::fault::Fault;
 // What varies in one card of each kind.
 #[derive(Clone, Copy)]
 struct Cards {
-    // of the family
+    // of the family, a number as a card holds it
     rule: i64,
     // that the basket, the month and the line name
     family: i64,
@@ -54,7 +54,7 @@ fn line(month: i64, r1: i64) -> Line {
     }
 }
 
-// Over a strip of these lines.
+// Over a strip of these lines. What varies from test to test comes apart.
 fn begun(
     heap: Global,
     lines: &[Line],

@@ -4,7 +4,7 @@ use crate::tables::{Step, Told, follow};
 use margin::book::Position;
 use std::test::Fail;
 
-// Enough for any margin.
+// Enough for any margin. Written out, so that it does not come from the code.
 const RICH: i64 = 100_000_000_000_000;
 
 const OWN_NUMBERS: [(Step, Told); 10] = [
@@ -72,6 +72,7 @@ const FULL: [(Step, Told); 9] = [
 #[test]
 fn the_thirty_third_order(rt: HostRuntime) -> Result<(), Fail> {
     let mut account = one_future(rt.alloc(), &[], RICH)?;
+    // by number, from the first: the orders differ in nothing else
     for number in 1..33 {
         follow(
             &rt,

@@ -1,4 +1,4 @@
-// Margins of small accounts, worked by hand.
+// Margins of small accounts, worked by hand. Values are written out, so that what is expected does not come from the code.
 use crate::markets::{FUTURE, NETTED, one_month, trade};
 use crate::tables::{Step, Told, follow};
 use banks::bank::Bank;
@@ -81,7 +81,8 @@ const SPREAD: [Held; 2] = [
     },
 ];
 
-// What they require, with 3 held and 2 sold, and a buy of one at 95,000 kopecks.
+// What they require, with 3 held and 2 sold, and a buy of one at 95,000 kopecks. The rule is
+// a number, as a card holds it.
 fn calendar(rt: &impl Abort, heap: Global, rule: i64) -> Result<Requirement, Fail> {
     let given = Given {
         families: &[NETTED],

@@ -1,4 +1,4 @@
-// The markets that the tests trade on.
+// The markets that the tests trade on. Values are written out, so that what is expected does not come from the code.
 use crate::tables::{Step, Told, follow};
 use banks::strip::Strip;
 use calls::accounts::Account;
@@ -53,7 +53,8 @@ pub fn held(net: i64) -> Held {
     }
 }
 
-// An account that begins with so many contracts of that future takes the steps.
+// An account that begins with so many contracts of that future takes the steps. What varies from test to
+// test comes apart.
 pub fn trade(
     rt: &impl Abort,
     heap: Global,

@@ -71,15 +71,12 @@ const OUTCOMES: [Told; 12] = [
 
 // The number that a call answers, of a margin the amount.
 fn heard(outcome: Result<Answer, Refusal>) -> Told {
-    match outcome {
-        Ok(
-            Answer::Numbered(number)
-            | Answer::StillLeft(number)
-            | Answer::Ended(number)
-            | Answer::Collateral(number),
-        ) => Ok(number),
-        Ok(Answer::Required(requirement)) => Ok(requirement.amount),
-        Err(why) => Err(refused(why)),
+    match outcome.map_err(refused)? {
+        Answer::Numbered(number)
+        | Answer::StillLeft(number)
+        | Answer::Ended(number)
+        | Answer::Collateral(number) => Ok(number),
+        Answer::Required(requirement) => Ok(requirement.amount),
     }
 }
 

@@ -16,7 +16,8 @@ use layers::naming::number;
 use margin::choice::{Counted, Kept, MOST_ORDERS};
 use std::array;
 
-// The number of a line's month; a line that is not there is read as one of month 0.
+// The number of a line's month; a line that is not there is read as one of month 0. This and the next are look-ups of two fields,
+// which share the shape alone.
 fn month_of(deck: &Deck, line: usize) -> usize
     ensures { result ≡ named (line_card (deck_cards deck.now) line).month }
 {

@@ -42,6 +42,7 @@ pub fn month_cells<'a, B: Bank>(bank: &'a B, deck: &'a Deck, book: Book<'a>) -> 
 }
 
 // In which cells each open order of a book is counted in a world, by the baskets' points and the months' columns in it.
+// They come apart, as the caller has them.
 pub fn counted_orders<'a, B: Bank>(
     bank: &'a B,
     deck: &'a Deck,

@@ -1,4 +1,4 @@
-// Tests of the margin through the code: figures and worlds of small books, worked by hand.
+// Tests of the margin through the code: figures and worlds of small books, worked by hand. Values are written out, so that what is expected does not come from the code.
 #![tactic(auto)]
 
 #[cfg(test)]
@@ -103,7 +103,8 @@ mod tests {
         assert_eq!(rt; one(heap, 0, 0, &[far]), None);
     }
 
-    // Two futures in two months of one basket, 3 held and 2 sold at 100,000 kopecks, and a buy of one at 95,000.
+    // Two futures in two months of one basket, 3 held and 2 sold at 100,000 kopecks, and a buy of one at 95,000. The
+    // rule is a number, as a card holds it.
     fn calendar(heap: Global, rule: i64) -> Option<Blocked> {
         let given = Given {
             families: &[NETTED],

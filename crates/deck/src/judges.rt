@@ -14,7 +14,7 @@ pub(crate) fn names(count: usize, name: i64) -> bool
     usize::try_from(name).is_ok_and(|number| number < count)
 }
 
-// A rule is 0, half, or 1, netted.
+// A rule is 0, half, or 1, netted: a number, as a card holds it.
 fn rules(rule: i64) -> bool
     ensures { result ≡ rule_fits rule }
 {

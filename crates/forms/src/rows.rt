@@ -101,7 +101,8 @@ impl Reader<'_> {
         self.due_number(&COLUMN, column as u128, bracket)
     }
 
-    // The row that is due, its prices written into a list of as many.
+    // The row that is due, its prices written into a list of as many. What says which row is due comes apart, since a struct of it would
+    // live for one call.
     fn row(&mut self, line: u128, column: usize, half: Half, out: &mut [i64]) -> Result<(), Refusal>
         requires { length out.old ≡ points half }
         ensures { Moves (λ text at. row_in line column half text [] at) self.old self.new (holding result out.new) }

@@ -1,4 +1,5 @@
 // The kinds of form that fill a record of their own, each with its head, its inner forms and their fields.
+// A `fill` goes from the place of an inner form to a field of its record: the shape is all that they share.
 #![tactic(auto)]
 
 ghost use Rattle.std.specs.Prelude.{◌≡◌, refl, pos};

@@ -1,4 +1,4 @@
-// A basket at a point.
+// A basket at a point. Each step has a size of its own, which the sums above need.
 ghost use Rattle.std.specs.Prelude.{◌≡◌, ℕ, ◌^◌, ◌≤◌, ℤ, unsigned_abs};
 ghost use Rattle.margin.specs.Book.{netted_basket, over_months};
 ghost use Rattle.margin.specs.Layers.{netted_column, netted_basket_result, half_basket_result, basket_result};
@@ -21,7 +21,7 @@ impl<'a> Scene<'a> {
 }
 
 impl<'a> Fitted<'a> {
-    // What a month gives to a sum.
+    // What a month gives to a sum, for callers that name a part; inside, a closure says it.
     fn part(&self, part: Part, m: usize, p: usize) -> i128
         ensures value { result ≡ part_of part (cells_of self.now.scene) m p }
         ensures size { unsigned_abs result ≤ 2 ^ 72 }

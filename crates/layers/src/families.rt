@@ -1,4 +1,4 @@
-// A family at a point, and the worst of its row.
+// A family at a point, and the worst of its row. Each step has a size of its own, which the sums above need.
 ghost use Rattle.std.specs.Prelude.{◌≡◌, ◌^◌, ◌≤◌, unsigned_abs};
 ghost use Rattle.margin.specs.Book.{netted_family, window_of};
 ghost use Rattle.margin.specs.Layers.{window_start, window_end, worst_within, family_result};
@@ -34,7 +34,8 @@ impl<'a> Scene<'a> {
         self.families.get(f).is_some_and(|family| family.rule == 1)
     }
 
-    // How many points a basket of the family may lie from the family's point.
+    // How many points a basket of the family may lie from the family's point. With the look-ups of other fields it shares the shape
+    // alone.
     pub fn window(&self, f: usize) -> usize
         ensures { result ≡ window_of (cards_of self.now) f }
     {

@@ -1,4 +1,4 @@
-// A month at a point.
+// A month at a point. Each step has a size of its own, which the sums above need.
 ghost use Rattle.std.specs.Prelude.{◌≡◌, ◌+◌, ◌^◌, ◌<◌, ◌≤◌, pos, unsigned_abs};
 ghost use Rattle.margin.specs.Layers.{volatility_result, rate_result, twist_result, curve_result, month_result};
 ghost use Rattle.margin.specs.Sums.{least3};

@@ -25,7 +25,8 @@ impl<'a> Fitted<'a> {
         array::from_fn(|p| self.basket_result(b, p))
     }
 
-    // The least of a basket's results from one point to another, worked out where they are not at hand.
+    // The least of a basket's results from one point to another, worked out where they are not at hand. Order and room are
+    // asked for as by `least_between`.
     fn least_in(&self, b: usize, start: usize, end: usize) -> (i128, usize)
         requires ordered { start ≤ end }
         requires within { end < 17 }
@@ -52,7 +53,7 @@ impl<'a> Fitted<'a> {
 }
 
 impl<'a> BasketRows<'a> {
-    // The least of a basket's results from one point to another, with its first point.
+    // The least of a basket's results from one point to another, with its first point. It asks as `least_between`.
     pub(crate) fn least_in(&self, b: usize, start: usize, end: usize) -> (i128, usize)
         requires ordered { start ≤ end }
         requires within { end < 17 }
@@ -65,7 +66,8 @@ impl<'a> BasketRows<'a> {
         }
     }
 
-    // A basket's result at a point, worked out where it is none of those that are kept.
+    // A basket's result at a point, worked out where it is none of those that are kept. It asks as
+    // `family_result`.
     pub(crate) fn result_at(&self, b: usize, p: usize) -> i128
         requires { p ≤ self.now.fitted.scene.last }
         ensures value { result ≡ basket_result (cards_of self.now.fitted.scene) (cells_of self.now.fitted.scene) b p }

@@ -39,7 +39,7 @@ fn chosen<T, F: Fn(usize) -> Option<T>, const N: usize>(count: usize, choice: F)
 }
 
 impl<'a> Scene<'a> {
-    // The number of the family that a basket names.
+    // The number of the family that a basket names; this and the next are look-ups of two fields, which share the shape alone.
     fn family_of(&self, b: usize) -> usize
         ensures { result ≡ named (basket_card (cards_of self.now) b).family }
     {
@@ -84,7 +84,7 @@ impl<'a> Fitted<'a> {
 }
 
 impl<'a> BasketRows<'a> {
-    // A basket in a family at a point.
+    // A basket in a family at a point, which it asks for as `worst_within` does.
     fn basket_in(&self, f: usize, p: usize, b: usize) -> Option<usize>
         requires { p ≤ self.now.fitted.scene.last }
         ensures { result ≡ basket_in self.now.fitted.scene.last (cards_of self.now.fitted.scene) (cells_of self.now.fitted.scene) f p b }

@@ -25,6 +25,7 @@ pub const HELD: usize = LINES;
 
 pub const ORDERS: usize = 2_000;
 
+// Lent at their full length, since nothing is allocated here; `Loaded` says how many records of each are used.
 #[derive(Drop)]
 pub struct Lists<'a> {
     pub families: &'a mut [Family],

@@ -28,6 +28,7 @@ fn line(n: i64) -> Line {
     }
 }
 
+// Records of each kind: the shape is all that they share.
 fn family(n: i64) -> Family {
     Family { rule: n, window: n }
 }
@@ -254,6 +255,7 @@ fn length_of_the_text(rt: HostRuntime) {
 #[test]
 fn a_text_of_the_greatest_length(rt: HostRuntime) -> Result<(), Fail> {
     let mut text = String::from_str(rt.alloc(), FUTURE)?;
+    // the same line so many times: there is no list of them
     for _ in 0..1_865 {
         text.push_str("(order (line 0) (net 1) (price 1))\n")?;
     }
@@ -293,6 +295,7 @@ fn one_too_many(rt: HostRuntime) -> Result<(), Fail> {
     ];
     for (before, form, most) in cases {
         let mut text = String::from_str(rt.alloc(), before)?;
+        // the same line so many times
         for _ in 0..most {
             text.push_str(form)?;
         }

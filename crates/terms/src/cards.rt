@@ -71,6 +71,7 @@ pub fn between(n: i64, low: i64, high: i64) -> bool
 }
 
 impl Rates {
+    // by a chain, which has no two ends: each rate is told from the next
     fn fit(&self) -> bool
         ensures { result ≡ rates_fit self.now }
     {
@@ -79,6 +80,7 @@ impl Rates {
 }
 
 impl Limits {
+    // by a chain, as rates
     fn fit(&self) -> bool
         ensures { result ≡ limits_fit self.now }
     {

@@ -33,6 +33,7 @@ impl Half {
         }
     }
 
+    // The number that a grid is given by. Beside `eighths` it has values of its own: the shape is all that they share.
     pub fn size(self) -> usize
         ensures { result ≡ half_size self }
     {

@@ -3,6 +3,7 @@
 // their cards, the option from a table of prices, and the whole is one bank.
 // Each of the two programs, this and `sheet`, shows whole what a caller writes: cards, bank, book, margin. What prints the
 // rows stands in both too: in a library it would be public functions of which no contract could say what they print.
+// Values are written out, as a caller has them.
 #![tactic(auto)]
 
 use banks::bank::Bank;
