@@ -54,10 +54,12 @@ def functions(text):
                 body.append(line)
             elif line.rstrip() in (" " * indent + "{}", "{}"):
                 break
-            elif line.rstrip().endswith(";") and not line.strip().startswith(("requires", "ensures")):
-                break
             elif re.match(r"\s*(requires|ensures)\b", line):
                 clauses.append(line.strip())
+                if line.rstrip().endswith(";"):
+                    break
+            elif line.rstrip().endswith(";"):
+                break
             elif line.strip().endswith("{") and not line.strip().startswith(("requires", "ensures")):
                 inside = True
         yield name, start + 1, clauses, body
