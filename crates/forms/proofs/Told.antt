@@ -1,5 +1,5 @@
 -- The reader's answers, by cases.
-use Rattle.std.proofs.Common.{◌≡◌, ℕ, ◌+◌, ◌-◌, ◌<◌, ◌≤◌, Bool, true, false, ◌&&◌, eqb, List, [], ◌∷◌, length, take, drop, ℤ, Ok, Err, Result, sym, ap, ◌∙◌, arith}
+use Rattle.std.proofs.Common.{◌≡◌, ℕ, ◌+◌, ◌-◌, ◌<◌, ◌≤◌, Bool, true, false, eqb, List, [], ◌∷◌, length, take, drop, ℤ, Ok, Err, Result, sym, ap, ◌∙◌, arith}
 use Rattle.std.proofs.lemmas.List.{take_rest, length-drop}
 use Rattle.std.proofs.lemmas.Bool.{ltb-true, and_parts, true≢false}
 use Rattle.terms.specs.declared.refusal.Refusal.{Refusal}
@@ -74,14 +74,6 @@ module _ (a : Asked) (bracket : ℕ) (text : List ℕ) (at : ℕ) where
   pub head_wrong : false ≡ fits_head a (drop at text) → Err (WrongForm bracket) ≡ head_in a bracket text at
   unfolding head_in
   head_wrong e = rw (sym e)
-
-  pub fits_not : false ≡ is_head a.head (take (length text - at) (drop at text)) → false ≡ fits_head a (drop at text)
-  fits_not e = ap (λ t. t && eqb (spaces 0 (drop at text)) a.count) (e ∙ ap (is_head a.head) (take_rest text at))
-
-  pub fits_is : (n : ℕ) → true ≡ is_head a.head (take (length text - at) (drop at text)) → n ≡ spaces 0 (take (length text - at) (drop at text)) → eqb n a.count ≡ fits_head a (drop at text)
-  fits_is n e f =
-      let counted = f ∙ ap (spaces 0) (take_rest text at) in
-      ap (λ t. t && eqb n a.count) (e ∙ ap (is_head a.head) (take_rest text at)) ∙ ap (λ k. is_head a.head (drop at text) && eqb k a.count) counted
 
 head_short : (h bs : List ℕ) → is_head h bs ≡ true → length h ≤ length bs
 head_short [] bs e = omega arith
