@@ -3,7 +3,7 @@
 ghost use Rattle.std.specs.Prelude.{◌≡◌, ◌+◌, ◌&&◌, None, ◌==◌, nat_lt};
 ghost use Rattle.std.specs.Char.{is_ascii_digit, is_ascii_lowercase};
 ghost use Rattle.text.specs.Grammar.{AcceptsWritings, OneReading, RefusesFirst};
-ghost use Rattle.text.specs.Shape.{when, step, ends_at, malformed_at};
+ghost use Rattle.text.specs.Shape.{when, step, more_forms, more_numbers, ends_at, malformed_at};
 
 use crate::number::MOST;
 
@@ -24,8 +24,9 @@ enum State {
     InnerSpace,
     Minus,
     Zero,
-    // so many digits of a number
-    Digits(usize),
+    // So many digits of a number. A small count, since a state is handed on at every byte of the text: with a usize the walk takes
+    // up to a sixth more instructions.
+    Digits(u8),
     InnerClosed,
     OuterClosed,
 }
@@ -62,20 +63,18 @@ fn end(state: State, place: usize) -> Option<usize>
 fn next(state: State, c: char) -> Option<State>
     ensures { result ≡ step state c }
 {
-    let more_forms = more(c, State::OuterSpace, State::OuterClosed);
-    let more_numbers = more(c, State::InnerSpace, State::InnerClosed);
     match state {
         State::Line => open(c, State::OuterOpen),
         State::OuterOpen => letter(c, State::OuterHead),
-        State::OuterHead => letter(c, State::OuterHead).or(more_forms),
+        State::OuterHead => letter(c, State::OuterHead).or(more_forms(c)),
         State::OuterSpace => open(c, State::InnerOpen),
         State::InnerOpen => letter(c, State::InnerHead),
-        State::InnerHead => letter(c, State::InnerHead).or(more_numbers),
+        State::InnerHead => letter(c, State::InnerHead).or(more_numbers(c)),
         State::InnerSpace => first_of_number(c),
         State::Minus => first_digit(c),
-        State::Zero => more_numbers,
-        State::Digits(count) => next_digit(count, c).or(more_numbers),
-        State::InnerClosed => more_forms,
+        State::Zero => more_numbers(c),
+        State::Digits(count) => next_digit(count, c).or(more_numbers(c)),
+        State::InnerClosed => more_forms(c),
         State::OuterClosed => end_of_line(c),
     }
 }
@@ -115,10 +114,10 @@ fn first_digit(c: char) -> Option<State>
 }
 
 // One more digit, behind `count` of them.
-fn next_digit(count: usize, c: char) -> Option<State>
+fn next_digit(count: u8, c: char) -> Option<State>
     ensures { result ≡ when (is_ascii_digit c && nat_lt count 15) (State.Digits (count + 1)) None }
 {
-    (c.is_ascii_digit() && count < MOST).then(|| State::Digits(count + 1))
+    (c.is_ascii_digit() && usize::from(count) < MOST).then(|| State::Digits(count + 1))
 }
 
 fn end_of_line(c: char) -> Option<State>
@@ -128,6 +127,20 @@ fn end_of_line(c: char) -> Option<State>
         '\n' => Some(State::Line),
         _ => None,
     }
+}
+
+// What may follow a head or an inner form, within an outer form.
+fn more_forms(c: char) -> Option<State>
+    ensures { result ≡ more_forms c }
+{
+    more(c, State::OuterSpace, State::OuterClosed)
+}
+
+// What may follow a head or a number, within an inner form.
+fn more_numbers(c: char) -> Option<State>
+    ensures { result ≡ more_numbers c }
+{
+    more(c, State::InnerSpace, State::InnerClosed)
 }
 
 // What may follow a head, an inner form or a number: a space before one more, or the closing bracket.
