@@ -1,14 +1,11 @@
 -- Whether a card names a number, and which; what a lookup gives; and a result's loss.
-use Rattle.std.proofs.Common.{◌≡◌, ℕ, ◌<◌, ◌≤◌, false, eqb, List, length, get_or, ℤ, pos, negsuc, nat_abs, ◌≤ℤ◌, ◌<ℤ◌, Some, None, Option, sym, refl, ap, ◌∙◌, arith, w64, SFits, Bor}
+use Rattle.std.proofs.Common.{◌≡◌, ℕ, ◌<◌, ◌≤◌, false, eqb, List, length, get_or, ℤ, pos, negsuc, nat_abs, ◌≤ℤ◌, ◌<ℤ◌, Some, None, Option, sym, refl, ap, ◌∙◌, arith, Bor}
 use lib.ListN.{get_or-eq_default}
 use Rattle.std.proofs.lemmas.Int.{ints}
-use Rattle.std.specs.Int.{FitsUnsignedBits}
 use Rattle.std.specs.List.{HoldsAt}
 use Rattle.std.specs.Option.{MatchOption}
-use Rattle.std.specs.Prelude.{Result, Ok, Err}
-use Rattle.std.specs.Result.{OkIff, result_unwrap_or}
 use Rattle.margin.specs.Layers.{loss_of}
-use Rattle.margin.specs.Book.{names, named}
+use Rattle.margin.specs.Book.{names}
 
 pub names_up : (name : ℤ) (i : ℕ) → pos 0 ≤ℤ name → eqb (nat_abs name) i ≡ names name i
 unfolding names
@@ -19,13 +16,6 @@ pub names_down : (name : ℤ) (i : ℕ) → name <ℤ pos 0 → false ≡ names 
 unfolding names
 names_down (pos n) i h = absurd (omega (arith, ints))
 names_down (negsuc n) i h = refl
-
-pub named_by : {E : Type 0} (name : ℤ) (o : Result ℕ E) → SFits w64 name → OkIff o (FitsUnsignedBits 64 name) (nat_abs name) → result_unwrap_or o 0 ≡ named name
-unfolding named
-named_by (pos n) (Ok x) fits is = is.1
-named_by (pos n) (Err e) fits is = absurd (is (omega (arith, ints)))
-named_by (negsuc n) (Ok x) fits is = absurd is.0
-named_by (negsuc n) (Err e) fits is = refl
 
 -- what is made of the item at a place, or of the item that is none, where there is nothing at that place
 pub looked_up : {A B : Type 0} (xs : List A) (i : ℕ) (none : A) (give : A → B) (o : Option (Bor A)) (P : Bor A → Type 0) (default r : B) → default ≡ give none → MatchOption o (length xs ≤ i) (λ x. (i < length xs) × HoldsAt (λ y. x.now ≡ y) xs i) → ((x : Bor A) → P x → r ≡ give x.now) → MatchOption o (r ≡ default) P → r ≡ give (get_or xs i none)
