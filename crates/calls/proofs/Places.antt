@@ -1,6 +1,6 @@
 -- The open orders by their places in the list, as a program that searches the list and changes it in place meets them.
 use Rattle.std.proofs.Common.{◌≡◌, ℕ, zero, suc, ◌<◌, Bool, true, false, cond, eqb, List, [], ◌∷◌, ◌++◌, length, get_or, take, drop, set, ℤ, pos, negsuc, nat_abs, Some, None, Ok, Err, Option, Result, sym, refl, ap, ◌∙◌, subst, ⊎_elim, le_refl, arith, w64, SFits}
-use Rattle.std.proofs.lemmas.Bool.{true≢false, false≢true, lt-ltb, le-ltb, cases_lt}
+use Rattle.std.proofs.lemmas.Bool.{lt-ltb, le-ltb, cases_lt}
 use denote.Enum.Bare.{sameb}
 use Rattle.std.specs.Result.{OkIff, result_eq}
 use Rattle.std.specs.Int.{FitsUnsignedBits}
@@ -14,9 +14,8 @@ use Rattle.account.specs.declared.orders.OrderState.{OrderState}
 use Rattle.account.specs.declared.orders.OrderState.TheVariants.{Untouched, PartlyFilled, Gone}
 use Rattle.account.specs.contracts.orders.OrderState.{the_type}
 use Rattle.account.specs.declared.orders.Event.{Event}
-use Rattle.account.specs.declared.orders.Event.TheVariants.{Filled, Cancelled}
 use Rattle.calls.specs.Accounts.{FirstAt, PlaceOf, none_open}
-use Rattle.account.specs.Orders.{fill_state, state_after, order_after, is_gone, found, kept, orders_after}
+use Rattle.account.specs.Orders.{order_after, is_gone, found, kept, orders_after}
 
 -- ---- numbers
 pub names_is : (number : ℤ) (own : ℕ) (same : TryFromIntError → TryFromIntError → Bool) (r : Result ℕ TryFromIntError) → SFits w64 number → OkIff r (FitsUnsignedBits 64 number) (nat_abs number) → result_eq eqb same r (Ok own) ≡ names number own
@@ -56,25 +55,6 @@ unfolding is_gone
 gone_is Untouched = refl
 gone_is PartlyFilled = refl
 gone_is Gone = refl
-
--- ---- the state after an event
-pub cancelled_is : (state : OrderState) (left : ℕ) → Gone ≡ state_after state Cancelled left
-unfolding state_after
-cancelled_is Untouched left = refl
-cancelled_is PartlyFilled left = refl
-cancelled_is Gone left = refl
-
-pub gone_stays : (state : OrderState) (size : ℤ) (left : ℕ) → sameb the_type state Gone ≡ true → Gone ≡ state_after state (Filled size) left
-unfolding state_after
-gone_stays Untouched size left e = absurd (false≢true e)
-gone_stays PartlyFilled size left e = absurd (false≢true e)
-gone_stays Gone size left e = refl
-
-pub filled_is : (state : OrderState) (size : ℤ) (left : ℕ) → sameb the_type state Gone ≡ false → fill_state left ≡ state_after state (Filled size) left
-unfolding state_after
-filled_is Untouched size left e = refl
-filled_is PartlyFilled size left e = refl
-filled_is Gone size left e = absurd (true≢false e)
 
 -- ---- the order at a place, which leaves the list if it is gone
 pub gone_leaves : (orders : List Order) (i : ℕ) (o : Order) → is_gone o.state ≡ true → remove orders i ≡ take i orders ++ kept o (drop (suc i) orders)

@@ -28,6 +28,7 @@ fn of_filled(left: u64) -> OrderState
 }
 
 // The state after an event that leaves so much.
+#[tactic(auto, unfolding(account::specs::Orders::state_after))]
 fn state_after(state: OrderState, event: Event, left: u64) -> OrderState
     ensures { result ≡ state_after state event left }
 {
