@@ -7,11 +7,11 @@ use terms::amounts::{MOST_CONTRACTS, MOST_PRICE};
 use terms::cards::{Basket, Family, Held, Line, Month, between};
 use terms::judge::first_unfit;
 
-// Whether a name names one of so many.
+// Whether a name names one of so many. By try_from it takes a third more time.
 pub(crate) fn names(count: usize, name: i64) -> bool
     ensures { result ≡ name_fits count name }
 {
-    usize::try_from(name).is_ok_and(|number| number < count)
+    0 <= name && (name as usize) < count
 }
 
 // A rule is 0, half, or 1, netted: a number, as a card holds it.
